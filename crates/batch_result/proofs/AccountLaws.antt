@@ -38,13 +38,15 @@ use Rattle.query_run.specs.Made.{IsOf}
 use Rattle.query_run.specs.Asking.{access_of, accesses_asked, grades_asked}
 use Rattle.fetcher.specs.Causes.{HasGiven}
 use Rattle.batch_result.specs.Account.{Reading, AsksGradesAlone, IsAnsweredOf, IsReadByGrades, IsWithin, KeepsEach, deepest, depth_in, greatest, lists_of_source, one_reading, one_readings, printed_reading, printed_readings, random_accesses, random_in}
+use Rattle.batch_result.specs.declared.batch.Use.{Use}
+use Rattle.batch_result.specs.Cut.{IsReadBy}
 use Rattle.batch_result.specs.Batches.{BatchRun, BatchState, IsBatch, size_at, use_at}
 use Rattle.batch_result.specs.Tables.{lists_for}
 use Rattle.batch_result.specs.Using.{IsWantedBy, all_grades_asked}
 use Rattle.batch_result.proofs.AskedLaws.{AsksWithin, GoesNoFurther, asked_of_run, asks_nothing, greatest_above, same_far, within_reading}
 use Rattle.batch_result.proofs.OwnTables.{all_tables, same_lists}
 use Rattle.batch_result.proofs.FaultLaws.{all_kept}
-use Rattle.batch_result.proofs.TableLaws.{agrees, read_of}
+use Rattle.batch_result.proofs.TableLaws.{agrees_by, reads_of, read_by}
 
 -- ---- all queries
 -- the second of a pair of lists, place by place
@@ -192,7 +194,7 @@ all_own states source (ready ∷ readies) (q ∷ queries) served of by_grades =
     let flat = own_flat states source ready q here of.0 (member_of_all (IsReadByGrades source) (ready ∷ readies) ready by_grades (contains_here ready readies)) in
     (own_reading states q here ∷ rest.0, (own_within states source q here, rest.1), ap (λ d. fold max (max 0 d) (map (depth_in source) rest.0)) flat ∙ rest.2)
 
--- ---- a batch
+-- ---- what was read
 -- a source that gave no row keeps none
 none_kept : (number count : ℕ) (s : State) → HasGiven number count s.log → number ≤ 0 → rows_in s.log ≡ []
 none_kept number count s h none =
@@ -208,79 +210,98 @@ none_kept number count s h none =
 reach_none : (want page ahead count rows : ℕ) → want ≡ 0 → rows ≤ reach_of want page ahead count → rows ≤ 0
 reach_none want page ahead count rows none l = subst (λ w. rows ≤ reach_of w page ahead count) none l
 
-module _ (run : BatchRun) (batch : BatchState) (ran : IsBatch run batch) where
-  within : (readings : List Reading) (source : ℕ) → source < length run.sizes → AllZip (AsksWithin source) ran.queries readings
-      → IsWithin run.settings (size_at run.sizes source) source readings (use_at batch.uses source)
+module _ (run : BatchRun) (queries : List Inquiry) (states : List State) (uses : List Use) (read : IsReadBy run queries states uses) where
+  within : (readings : List Reading) (source : ℕ) → source < length run.sizes → AllZip (AsksWithin source) queries readings
+      → IsWithin run.settings (size_at run.sizes source) source readings (use_at uses source)
   within readings source l h =
-      let used = ran.used source l in
+      let used = read.used source l in
       let most = used.asked in
-      let all = random_within source ran.queries readings h in
+      let all = random_within source queries readings h in
       record {
-        want = deep_within source (use_at batch.uses source).want ran.queries readings h used.wanted;
-        rows = subst (λ n. (use_at batch.uses source).rows ≤ reach_of (use_at batch.uses source).want run.settings.page run.settings.ahead n)
-            (ran.closing source l).count used.reach;
+        want = deep_within source (use_at uses source).want queries readings h used.wanted;
+        rows = subst (λ n. (use_at uses source).rows ≤ reach_of (use_at uses source).want run.settings.page run.settings.ahead n)
+            (read.closing source l).count used.reach;
         asks = omega (arith, most, all);
         grades = used.once;
       }
+
+  -- where no query reads the source in order
+  pub no_rows_by : (readies : List Ready) → AllZip IsOf readies queries → (source : ℕ) → source < length run.sizes → All (IsReadByGrades source) readies
+      → ((use_at uses source).want ≡ 0) × ((use_at uses source).rows ≡ 0)
+  no_rows_by readies of source l by_grades =
+      let used = read.used source l in
+      let readings = all_own states source readies queries read.served of by_grades in
+      let deep = deep_within source (use_at uses source).want queries readings.0 readings.1 used.wanted in
+      let none : (use_at uses source).want ≡ 0 = omega (arith, deep, readings.2) in
+      let few : (use_at uses source).rows ≤ 0 = reach_none (use_at uses source).want run.settings.page run.settings.ahead (state_at states source).count (use_at uses source).rows none used.reach in
+      (none, omega (arith, few))
+
+  -- where the sources tell tables
+  module _ (readies : List Ready) (of : AllZip IsOf readies queries) (lists : List (List Row)) (told : run.told ≡ map Some lists)
+      (tables : All (λ ready. IsTable ready.count (lists_for lists ready)) readies) where
+    own : All (HasTable lists) queries
+    own = all_tables lists readies queries of tables
+
+    asks_so : (source : ℕ) (ready : Ready) (q : Inquiry) → Contains queries q → IsOf ready q → AsksWithin source q (one_reading lists ready)
+    asks_so source ready q c is =
+        within_reading source q (one_reading lists ready) (sym is.sources)
+        (no_further lists states ready q is (member_of_all (IsServed states) queries q read.served c)
+        (agrees_by run queries states uses read lists told own q c))
+
+    all_reads : (source : ℕ) (rs : List Ready) (qs : List Inquiry) → ((q : Inquiry) → Contains qs q → Contains queries q) → AllZip IsOf rs qs
+        → AllZip (AsksWithin source) qs (one_readings lists rs)
+    all_reads source [] [] among are = tt
+    all_reads source [] (q ∷ qs) among are = absurd are
+    all_reads source (ready ∷ rs) [] among are = absurd are
+    all_reads source (ready ∷ rs) (q ∷ qs) among are =
+        (asks_so source ready q (among q (contains_here q qs)) are.0, all_reads source rs qs (λ p c. among p (contains_there q qs p c)) are.1)
+
+    pub account_by : (source : ℕ) → source < length run.sizes
+        → IsWithin run.settings (size_at run.sizes source) source (one_readings lists readies) (use_at uses source)
+    account_by source l = within (one_readings lists readies) source l (all_reads source readies queries (λ q c. c) of)
+
+    pub kept_by : (source : ℕ) → source < length run.sizes → KeepsEach (list_at lists source) (state_at states source) (use_at uses source)
+    kept_by source l =
+        let used = read.used source l in
+        let s = state_at states source in
+        let list = list_at lists source in
+        let rows = (use_at uses source).rows in
+        elim used.wanted [
+          | inl none ↦
+              let few : rows ≤ 0 = reach_none (use_at uses source).want run.settings.page run.settings.ahead s.count rows none used.reach in
+              let zeros : rows ≡ 0 = omega (arith, few) in
+              none_kept rows s.count s used.comes few ∙ sym (ap (λ n. take n list) zeros)
+          | inr asked ↦
+              let is = asked.2 in
+              let reads_it : Contains asked.0.sources.items source = subst (Contains asked.0.sources.items) is.of (contains_at asked.0.sources.items is.list 0 is.listed) in
+              let known = reads_of run queries states uses read lists told own asked.0 source asked.1 reads_it in
+              let all : rows_in s.log ≡ used.comes.given = all_kept list used.comes.given s.count s.log (fault_in s.log) known.ranked known.tells used.comes.comes refl in
+              let long : length (rows_in s.log) ≡ rows = ap (length {A = Row}) all ∙ used.comes.many in
+              sym known.tells.rows ∙ ap (λ n. take n list) long
+        ]
+
+-- ---- a batch
+module _ (run : BatchRun) (batch : BatchState) (ran : IsBatch run batch) where
+  read : IsReadBy run ran.queries ran.states batch.uses
+  read = read_by run batch ran
 
   -- where each query that reads the source was answered
   pub printed_account : (source : ℕ) → source < length run.sizes → AllZip (IsAnsweredOf source) run.readies batch.endings
       → IsWithin run.settings (size_at run.sizes source) source (printed_readings run.readies batch.endings) (use_at batch.uses source)
   printed_account source l answered =
-      within (printed_readings run.readies batch.endings) source l
+      within run ran.queries ran.states batch.uses read (printed_readings run.readies batch.endings) source l
       (all_printed ran.states source run.readies ran.queries batch.endings ran.served ran.of ran.ends answered)
 
-  -- where no query reads the source in order
   pub out_of_order : (source : ℕ) → source < length run.sizes → All (IsReadByGrades source) run.readies
       → ((use_at batch.uses source).want ≡ 0) × ((use_at batch.uses source).rows ≡ 0)
-  out_of_order source l by_grades =
-      let used = ran.used source l in
-      let readings = all_own ran.states source run.readies ran.queries ran.served ran.of by_grades in
-      let deep = deep_within source (use_at batch.uses source).want ran.queries readings.0 readings.1 used.wanted in
-      let none : (use_at batch.uses source).want ≡ 0 = omega (arith, deep, readings.2) in
-      let few : (use_at batch.uses source).rows ≤ 0 = reach_none (use_at batch.uses source).want run.settings.page run.settings.ahead (state_at ran.states source).count (use_at batch.uses source).rows none used.reach in
-      (none, omega (arith, few))
+  out_of_order = no_rows_by run ran.queries ran.states batch.uses read run.readies ran.of
 
   -- where the sources tell tables
   module _ (lists : List (List Row)) (told : run.told ≡ map Some lists)
       (tables : All (λ ready. IsTable ready.count (lists_for lists ready)) run.readies) where
-    own : All (HasTable lists) ran.queries
-    own = all_tables lists run.readies ran.queries ran.of tables
-
-    asks_so : (source : ℕ) (ready : Ready) (q : Inquiry) → Contains ran.queries q → IsOf ready q → AsksWithin source q (one_reading lists ready)
-    asks_so source ready q c of =
-        within_reading source q (one_reading lists ready) (sym of.sources)
-        (no_further lists ran.states ready q of (member_of_all (IsServed ran.states) ran.queries q ran.served c)
-        (agrees run batch ran lists told own q c))
-
-    all_reads : (source : ℕ) (readies : List Ready) (queries : List Inquiry) → ((q : Inquiry) → Contains queries q → Contains ran.queries q)
-        → AllZip IsOf readies queries → AllZip (AsksWithin source) queries (one_readings lists readies)
-    all_reads source [] [] among of = tt
-    all_reads source [] (q ∷ queries) among of = absurd of
-    all_reads source (ready ∷ readies) [] among of = absurd of
-    all_reads source (ready ∷ readies) (q ∷ queries) among of =
-        (asks_so source ready q (among q (contains_here q queries)) of.0, all_reads source readies queries (λ p c. among p (contains_there q queries p c)) of.1)
-
     pub told_account : (source : ℕ) → source < length run.sizes
         → IsWithin run.settings (size_at run.sizes source) source (one_readings lists run.readies) (use_at batch.uses source)
-    told_account source l = within (one_readings lists run.readies) source l (all_reads source run.readies ran.queries (λ q c. c) ran.of)
+    told_account = account_by run ran.queries ran.states batch.uses read run.readies ran.of lists told tables
 
     pub told_kept : (source : ℕ) → source < length run.sizes → KeepsEach (list_at lists source) (state_at ran.states source) (use_at batch.uses source)
-    told_kept source l =
-        let used = ran.used source l in
-        let s = state_at ran.states source in
-        let list = list_at lists source in
-        let rows = (use_at batch.uses source).rows in
-        elim used.wanted [
-          | inl none ↦
-              let few : rows ≤ 0 = reach_none (use_at batch.uses source).want run.settings.page run.settings.ahead s.count rows none used.reach in
-              let zeros : rows ≡ 0 = omega (arith, few) in
-              none_kept rows s.count s used.comes few ∙ sym (ap (λ n. take n list) zeros)
-          | inr asked ↦
-              let of = asked.2 in
-              let reads_it : Contains asked.0.sources.items source = subst (Contains asked.0.sources.items) of.of (contains_at asked.0.sources.items of.list 0 of.listed) in
-              let read = read_of run batch ran lists told own asked.0 source asked.1 reads_it in
-              let all : rows_in s.log ≡ used.comes.given = all_kept list used.comes.given s.count s.log (fault_in s.log) read.ranked read.tells used.comes.comes refl in
-              let long : length (rows_in s.log) ≡ rows = ap (length {A = Row}) all ∙ used.comes.many in
-              sym read.tells.rows ∙ ap (λ n. take n list) long
-        ]
+    told_kept = kept_by run ran.queries ran.states batch.uses read run.readies ran.of lists told tables

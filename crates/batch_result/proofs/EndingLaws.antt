@@ -10,8 +10,8 @@ use Rattle.ranked_list.specs.declared.need.Need.TheVariants as need
 use Rattle.ranked_list.specs.Table.{IsTable}
 use Rattle.topk_theory.proofs.AgreementLists.{member_of_all, contains_here, contains_there}
 use Rattle.topk_theory.proofs.Counts.{none_counted}
-use Rattle.source_state.specs.declared.entry.FailKind.{FailKind}
-use Rattle.source_state.specs.declared.entry.FailKind.TheVariants as kind
+use Rattle.source_api.specs.declared.source.FailKind.{FailKind}
+use Rattle.source_api.specs.declared.source.FailKind.TheVariants as kind
 use Rattle.source_state.specs.declared.look.LookFault.{LookFault}
 use Rattle.source_state.specs.declared.look.LookFault.TheVariants as why
 use Rattle.source_state.specs.State.{State, state_at}
@@ -108,8 +108,8 @@ module _ (run : BatchRun) (batch : BatchState) (lists : List (List Row)) (ran : 
       let on = member_of_all (IsOnItsRun lists) ran.queries q runs c in
       subst (λ D. EndsOver D ready end) (sym (same_lists lists ready q of))
       (ends_over lists ran.states ready q (member_of_all (IsServed ran.states) ran.queries q ran.served c) of (own_table ready q of c) on.agrees on
-      (λ list. none_refused kind.Failed why.Failed q list refl none_failed c)
-      (λ list. none_refused kind.Garbled why.Garbled q list refl none_garbled c) (member_of_all IsSpared ran.queries q ran.spared c) end ends)
+      (λ list. none_refused kind.Failed (why.Call kind.Failed) q list refl none_failed c)
+      (λ list. none_refused kind.Garbled (why.Call kind.Garbled) q list refl none_garbled c) (member_of_all IsSpared ran.queries q ran.spared c) end ends)
 
   pub ends_over_all : AllZip (λ ready. EndsOver (lists_for lists ready) ready) run.readies batch.endings
   ends_over_all = zip_through IsOf EndsAs (λ ready. EndsOver (lists_for lists ready) ready) run.readies ran.queries batch.endings

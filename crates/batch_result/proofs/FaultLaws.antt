@@ -237,9 +237,7 @@ module _ (run : BatchRun) (batch : BatchState) (ran : IsBatch run batch) where
       if_told (told_list run.told ready list) _ (λ rows. ¬ Contains (objects rows) object) at.tells
       (λ rows tells. lacks rows (state_at ran.states (source_needed q)) (needed q) object tells at.cause)
   one_cause ready q (ended.Look list (why.AsksFull kept)) c of ends = tt
-  one_cause ready q (ended.Look list why.Failed) c of ends = tt
-  one_cause ready q (ended.Look list why.Garbled) c of ends = tt
-  one_cause ready q (ended.Look list why.Memory) c of ends = tt
+  one_cause ready q (ended.Look list (why.Call what)) c of ends = tt
   one_cause ready q (ended.Core fault) c of ends = tt
   one_cause ready q (ended.Answered answer) c of ends = tt
 

@@ -10,5 +10,6 @@ pub mod RunOverLists
 pub mod EndingLaws
 pub mod AskedLaws
 pub mod AccountLaws
+pub mod CutLaws
 pub mod FaultLaws
 pub mod OutsideLaws

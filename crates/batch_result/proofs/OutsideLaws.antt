@@ -15,6 +15,7 @@ use Rattle.source_state.specs.declared.entry.SourceFault.{SourceFault}
 use Rattle.source_state.specs.declared.entry.SourceFault.TheVariants.{OutOfOrder, TooHigh, Repeated, Clash, Above, ShortList, Moved}
 use Rattle.source_state.specs.Log.{fault_in}
 use Rattle.source_state.specs.declared.look.LookFault.{LookFault}
+use Rattle.source_api.specs.declared.source.FailKind.TheVariants as kind
 use Rattle.source_state.specs.declared.look.LookFault.TheVariants as why
 use Rattle.source_state.specs.State.{State, IsSound, state_at}
 use Rattle.query_core.specs.declared.ready.Ready.{Ready}
@@ -88,14 +89,14 @@ none_lacked list s (need.Grade number named) object tells of h =
 none_lacked list s (need.Row number depth) object tells of h = h
 none_lacked list s need.Done object tells of h = h
 
-look_outside : (list : List Row) (s : State) (n : Need) (noted : Tally) (fault : LookFault) → NeedsOf list s n → (fault ≡ why.Memory → ⊥)
+look_outside : (list : List Row) (s : State) (n : Need) (noted : Tally) (fault : LookFault) → NeedsOf list s n → (fault ≡ why.Call kind.Memory → ⊥)
     → CanNotBeHad s n noted fault → IsOutside fault
 look_outside list s n noted (why.Source fault) t spared had = fault_outside list s n fault t had
 look_outside list s n noted (why.Missing object) t spared had = absurd (none_lacked list s n object t.tells t.of had)
 look_outside list s n noted (why.AsksFull kept) t spared had = absurd (none_full list s n kept t.long t.sound t.asked t.of had)
-look_outside list s n noted why.Failed t spared had = tt
-look_outside list s n noted why.Garbled t spared had = tt
-look_outside list s n noted why.Memory t spared had = absurd (spared refl)
+look_outside list s n noted (why.Call kind.Failed) t spared had = tt
+look_outside list s n noted (why.Call kind.Garbled) t spared had = tt
+look_outside list s n noted (why.Call kind.Memory) t spared had = absurd (spared refl)
 
 -- ---- a batch whose sources tell tables
 module _ (run : BatchRun) (batch : BatchState) (ran : IsBatch run batch) (lists : List (List Row)) (told : run.told ≡ map Some lists)

@@ -9,6 +9,7 @@ use Rattle.machine_base.specs.declared.answer.Answer.{Answer}
 use Rattle.machine_base.specs.declared.core_fault.CoreFault.{CoreFault}
 use Rattle.machine_base.specs.declared.core_fault.CoreFault.TheVariants as core
 use Rattle.source_state.specs.declared.look.LookFault.{LookFault}
+use Rattle.source_api.specs.declared.source.FailKind.TheVariants as kind
 use Rattle.source_state.specs.declared.look.LookFault.TheVariants as why
 use Rattle.source_state.specs.State.{State, state_at}
 use Rattle.query_core.specs.declared.drive_fault.DriveFault.{DriveFault}
@@ -67,8 +68,8 @@ module _ (lists : List (List Row)) (states : List State) (ready : Ready) (q : In
   ends_or_fails lacked looked (ended.Look list fault) ends = looked list fault ends
 
   -- where no call that failed refuses it, the query ends over its lists
-  pub ends_over : IsOnItsRun lists q → ((list : ℕ) → q.refusal ≡ Some (refusal.Look list why.Failed) → ⊥)
-      → ((list : ℕ) → q.refusal ≡ Some (refusal.Look list why.Garbled) → ⊥)
+  pub ends_over : IsOnItsRun lists q → ((list : ℕ) → q.refusal ≡ Some (refusal.Look list (why.Call kind.Failed)) → ⊥)
+      → ((list : ℕ) → q.refusal ≡ Some (refusal.Look list (why.Call kind.Garbled)) → ⊥)
       → IsSpared q → (end : Ended) → EndsAs q end → EndsOver D ready end
   ends_over on failed garbled spared (ended.Answered answer) ends = answers_over answer ends
   ends_over on failed garbled spared (ended.Core (core.RoomFull room)) ends = is_over room (subst (MayRefuse D q) ends on.refused) ends
@@ -76,6 +77,6 @@ module _ (lists : List (List Row)) (states : List State) (ready : Ready) (q : In
   ends_over on failed garbled spared (ended.Look list (why.Source fault)) ends = subst (MayRefuse D q) ends on.refused
   ends_over on failed garbled spared (ended.Look list (why.Missing object)) ends = subst (MayRefuse D q) ends on.refused
   ends_over on failed garbled spared (ended.Look list (why.AsksFull kept)) ends = subst (MayRefuse D q) ends on.refused
-  ends_over on failed garbled spared (ended.Look list why.Failed) ends = failed list ends
-  ends_over on failed garbled spared (ended.Look list why.Garbled) ends = garbled list ends
-  ends_over on failed garbled spared (ended.Look list why.Memory) ends = spared list ends
+  ends_over on failed garbled spared (ended.Look list (why.Call kind.Failed)) ends = failed list ends
+  ends_over on failed garbled spared (ended.Look list (why.Call kind.Garbled)) ends = garbled list ends
+  ends_over on failed garbled spared (ended.Look list (why.Call kind.Memory)) ends = spared list ends

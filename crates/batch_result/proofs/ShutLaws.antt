@@ -16,6 +16,7 @@ use Rattle.source_state.specs.Events.{logged, row_or, with_rows, paged, after}
 use Rattle.source_state.proofs.Lists.{none_not_some}
 use Rattle.source_state.proofs.LogLaws.{kept_faults}
 use Rattle.source_api.specs.declared.counts.Counts.{Counts}
+use Rattle.source_api.specs.declared.source.Trouble.TheVariants as trouble
 use Rattle.fetcher.specs.declared.turned.Turned.{Turned}
 use Rattle.fetcher.specs.declared.turned.Turned.TheVariants as turned
 use Rattle.fetcher.specs.Turning.{Brings}
@@ -96,10 +97,8 @@ shut_turn page ahead list counts now before after (turned.Graded object) b h =
     (shut_push found.log (Settled object (settle (rows_in found.log) object b.grade)) (subst Shut (sym b.fed.is.log) h) (λ fault e. refl))
 shut_turn page ahead list counts now before after (turned.Missed object) b h =
     subst Shut (sym b.fed.sees.log) (shut_push b.fed.found.log (Settled object Missed) (subst Shut (sym b.fed.is.log) h) (λ fault e. refl))
-shut_turn page ahead list counts now before after turned.Failed b h = subst Shut (sym b.seen) h
-shut_turn page ahead list counts now before after turned.Garbled b h = subst Shut (sym b.seen) h
-shut_turn page ahead list counts now before after turned.Memory b h = subst Shut (sym b.seen) h
-shut_turn page ahead list counts now before after (turned.Moved had other) b h =
+shut_turn page ahead list counts now before after (turned.Troubled (trouble.Fail what)) b h = subst Shut (sym b.seen) h
+shut_turn page ahead list counts now before after (turned.Troubled (trouble.Moved had other)) b h =
     subst Shut (sym b.fed.sees.log) (shut_moved b.fed.found b.object had other (subst Shut (sym b.fed.is.log) h))
 shut_turn page ahead list counts now before after turned.Idle b h = subst Shut (sym b.seen) h
 

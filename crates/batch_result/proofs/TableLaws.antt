@@ -29,7 +29,9 @@ use Rattle.query_run.proofs.Honest.{list_is, on_its_run}
 use Rattle.query_run.specs.Asking.{access_of, AsksGradeOf}
 use Rattle.fetcher.specs.Telling.{TellsOf}
 use Rattle.batch_result.specs.Numbered.{told_at}
+use Rattle.batch_result.specs.declared.batch.Use.{Use}
 use Rattle.batch_result.specs.Batches.{BatchState, BatchRun, IsHonestFor, IsBatch}
+use Rattle.batch_result.specs.Cut.{IsReadBy}
 use Rattle.batch_result.specs.Tables.{NoneMoved}
 use Rattle.batch_result.proofs.Places.{map_at, same_at}
 
@@ -119,50 +121,71 @@ pub record IsReadOf (lists : List (List Row)) (states : List State) (source : �
   pub tells : TellsOf (list_at lists source) (state_at states source).log
   pub honest : IsHonestFor (list_at lists source) (state_at states source)
 
--- the closing states of a batch are sound
-pub states_sound : (run : BatchRun) (batch : BatchState) (ran : IsBatch run batch) → All IsSound ran.states
-states_sound run batch ran k d l =
-    let many = ran.many in
-    subst IsSound (same_at ran.states k (opened 0 0) d l) (ran.closing k (omega (arith, l, many))).sound
+-- the closing states are sound
+sound_by : (run : BatchRun) (queries : List Inquiry) (states : List State) (uses : List Use) → IsReadBy run queries states uses → All IsSound states
+sound_by run queries states uses read k d l =
+    let many = read.many in
+    subst IsSound (same_at states k (opened 0 0) d l) (read.closing k (omega (arith, l, many))).sound
 
-module _ (run : BatchRun) (batch : BatchState) (ran : IsBatch run batch) (lists : List (List Row)) (told : run.told ≡ map Some lists)
-    (tables : All (HasTable lists) ran.queries) where
-  all_sound : All IsSound ran.states
-  all_sound = states_sound run batch ran
+module _ (run : BatchRun) (queries : List Inquiry) (states : List State) (uses : List Use) (read : IsReadBy run queries states uses) (lists : List (List Row)) (told : run.told ≡ map Some lists)
+    (tables : All (HasTable lists) queries) where
+  all_sound : All IsSound states
+  all_sound = sound_by run queries states uses read
 
-  served : (q : Inquiry) → Contains ran.queries q → IsServed ran.states q
-  served q c = member_of_all (IsServed ran.states) ran.queries q ran.served c
+  served_by : (q : Inquiry) → Contains queries q → IsServed states q
+  served_by q c = member_of_all (IsServed states) queries q read.served c
 
-  table : (q : Inquiry) → Contains ran.queries q → HasTable lists q
-  table q c = member_of_all (HasTable lists) ran.queries q tables c
+  table : (q : Inquiry) → Contains queries q → HasTable lists q
+  table q c = member_of_all (HasTable lists) queries q tables c
 
-  within : (q : Inquiry) (source : ℕ) → Contains ran.queries q → Contains q.sources.items source → source < length run.sizes
-  within q source c s =
-      let at = member_of_all (IsSourceOf ran.states (state_of q.machine).log.count) q.sources.items source (served q c).sources.each s in
-      let many = ran.many in
+  within_by : (q : Inquiry) (source : ℕ) → Contains queries q → Contains q.sources.items source → source < length run.sizes
+  within_by q source c s =
+      let at = member_of_all (IsSourceOf states (state_of q.machine).log.count) q.sources.items source (served_by q c).sources.each s in
+      let many = read.many in
       omega (arith, at.0, many)
 
-  pub read_of : (q : Inquiry) (source : ℕ) → Contains ran.queries q → Contains q.sources.items source → IsReadOf lists ran.states source
-  read_of q source c s =
-      let at = member_of_all (IsSourceOf ran.states (state_of q.machine).log.count) q.sources.items source (served q c).sources.each s in
+  pub reads_of : (q : Inquiry) (source : ℕ) → Contains queries q → Contains q.sources.items source → IsReadOf lists states source
+  reads_of q source c s =
+      let at = member_of_all (IsSourceOf states (state_of q.machine).log.count) q.sources.items source (served_by q c).sources.each s in
       let among = contains_map (list_at lists) q.sources.items source s in
       let sized = member_of_all (λ (rows : List Row). length rows ≡ (state_of q.machine).log.count) (lists_of lists q) (list_at lists source) (table q c).sized among in
-      let posed = (served q c).run.posed in
+      let posed = (served_by q c).run.posed in
       let positive = posed.positive in
       let fits = posed.fits in
       let is : told_at run.told source ≡ Some (list_at lists source)
       = ap (λ all. told_at all source) told ∙ told_list lists source (omega (arith, sized, positive, fits)) in
-      let closing = ran.closing source (within q source c s) in
+      let closing = read.closing source (within_by q source c s) in
       record {
         ranked = member_of_all IsRanked (lists_of lists q) (list_at lists source) (table q c).ranked among;
         long = sized ∙ sym at.1;
-        tells = subst (λ o. IfSome o (λ list. TellsOf list (state_at ran.states source).log)) is closing.tells;
-        honest = subst (λ o. IfSome o (λ list. IsHonestFor list (state_at ran.states source))) is closing.honest;
+        tells = subst (λ o. IfSome o (λ list. TellsOf list (state_at states source).log)) is closing.tells;
+        honest = subst (λ o. IfSome o (λ list. IsHonestFor list (state_at states source))) is closing.honest;
       }
 
+  pub agrees_by : (q : Inquiry) → Contains queries q → AgreesWith (lists_of lists q) (state_of q.machine).log
+  agrees_by q c = told_agrees lists states q all_sound (served_by q c) (table q c)
+      (λ list l. (reads_of q (source_of q list) c (contains_at q.sources.items list 0 l)).tells)
+
+-- what a batch reads
+pub read_by : (run : BatchRun) (batch : BatchState) (ran : IsBatch run batch) → IsReadBy run ran.queries ran.states batch.uses
+read_by run batch ran = record { many = ran.many; closing = ran.closing; served = ran.served; used = ran.used }
+
+pub states_sound : (run : BatchRun) (batch : BatchState) (ran : IsBatch run batch) → All IsSound ran.states
+states_sound run batch ran = sound_by run ran.queries ran.states batch.uses (read_by run batch ran)
+
+module _ (run : BatchRun) (batch : BatchState) (ran : IsBatch run batch) (lists : List (List Row)) (told : run.told ≡ map Some lists)
+    (tables : All (HasTable lists) ran.queries) where
+  served : (q : Inquiry) → Contains ran.queries q → IsServed ran.states q
+  served q c = member_of_all (IsServed ran.states) ran.queries q ran.served c
+
+  within : (q : Inquiry) (source : ℕ) → Contains ran.queries q → Contains q.sources.items source → source < length run.sizes
+  within = within_by run ran.queries ran.states batch.uses (read_by run batch ran) lists told tables
+
+  pub read_of : (q : Inquiry) (source : ℕ) → Contains ran.queries q → Contains q.sources.items source → IsReadOf lists ran.states source
+  read_of = reads_of run ran.queries ran.states batch.uses (read_by run batch ran) lists told tables
+
   pub agrees : (q : Inquiry) → Contains ran.queries q → AgreesWith (lists_of lists q) (state_of q.machine).log
-  agrees q c = told_agrees lists ran.states q all_sound (served q c) (table q c)
-      (λ list l. (read_of q (source_of q list) c (contains_at q.sources.items list 0 l)).tells)
+  agrees = agrees_by run ran.queries ran.states batch.uses (read_by run batch ran) lists told tables
 
 -- where moreover no list was replaced
 module _ (run : BatchRun) (batch : BatchState) (ran : IsBatch run batch) (lists : List (List Row)) (told : run.told ≡ map Some lists) (unmoved : NoneMoved run)

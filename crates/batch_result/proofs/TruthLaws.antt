@@ -23,6 +23,7 @@ use Rattle.source_state.proofs.Lists.{none_not_some}
 use Rattle.source_state.proofs.LogLaws.{settled_same, fault_first}
 use Rattle.query_run.specs.Honest.{IsGradeOf, IsTrueOf}
 use Rattle.query_run.proofs.TrueLists.{IsHonestEvent, true_after}
+use Rattle.source_api.specs.declared.source.Trouble.TheVariants as trouble
 use Rattle.fetcher.specs.declared.turned.Turned.{Turned}
 use Rattle.fetcher.specs.declared.turned.Turned.TheVariants as turned
 use Rattle.fetcher.specs.Turning.{IsFed, IsOfSource, Brings}
@@ -109,10 +110,8 @@ true_turn page ahead list counts now before after (turned.Missed object) b ranke
     let pending : Contains b.fed.found.asks object = (pending_parts b.fed.found object b.fed.may).0 in
     let there : Contains after.met object = subst (λ os. Contains os object) (found_asks (event.Miss object) before after b.fed tt) pending in
     absurd (b.told (asked object there))
-true_turn page ahead list counts now before after turned.Failed b ranked long asked none h = true_same list before.seen after.seen b.seen h
-true_turn page ahead list counts now before after turned.Garbled b ranked long asked none h = true_same list before.seen after.seen b.seen h
-true_turn page ahead list counts now before after turned.Memory b ranked long asked none h = true_same list before.seen after.seen b.seen h
-true_turn page ahead list counts now before after (turned.Moved had other) b ranked long asked none h =
+true_turn page ahead list counts now before after (turned.Troubled (trouble.Fail what)) b ranked long asked none h = true_same list before.seen after.seen b.seen h
+true_turn page ahead list counts now before after (turned.Troubled (trouble.Moved had other)) b ranked long asked none h =
     absurd (none had other (move_seen b.object had other before after b.fed))
 true_turn page ahead list counts now before after turned.Idle b ranked long asked none h = true_same list before.seen after.seen b.seen h
 

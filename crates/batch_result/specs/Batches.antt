@@ -4,6 +4,7 @@ use Rattle.std.specs.List.{AllZip, slice_index_or}
 use Rattle.ranked_list.specs.declared.row.Row.{Row}
 use Rattle.ranked_list.specs.Table.{IsRanked, objects}
 use Rattle.source_api.specs.declared.counts.Counts.{Counts}
+use Rattle.source_api.specs.declared.source.FailKind.TheVariants as kind
 use Rattle.source_state.specs.declared.look.LookFault.TheVariants as why
 use Rattle.source_state.specs.State.{State, IsSound, state_at}
 use Rattle.query_core.specs.declared.ready.Ready.{Ready}
@@ -77,7 +78,7 @@ pub record IsClosing (source size : ℕ) (told : Option (List Row)) (s : State) 
 
 -- a query isn't refused for want of memory
 abbrev pub IsSpared : Inquiry → Type 0
-IsSpared q = (list : ℕ) → q.refusal ≢ Some (Look list why.Memory)
+IsSpared q = (list : ℕ) → q.refusal ≢ Some (Look list (why.Call kind.Memory))
 
 -- how a batch ended. There are the closing states of the sources, and the queries as they stood at their ends, in their order:
 --   each query's transcript is drawn from the closing logs of its sources and is how the run of its algorithm begins on every table that

@@ -6,3 +6,4 @@ pub mod Batches
 pub mod Tables
 pub mod Account
 pub mod ToldFaults
+pub mod Cut

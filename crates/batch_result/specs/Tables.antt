@@ -8,6 +8,7 @@ use Rattle.machine_base.specs.declared.core_fault.CoreFault.TheVariants.{RoomFul
 use Rattle.source_api.specs.declared.counts.Counts.{Counts}
 use Rattle.source_state.specs.declared.entry.SourceFault.TheVariants.{Moved}
 use Rattle.source_state.specs.declared.look.LookFault.{LookFault}
+use Rattle.source_api.specs.declared.source.FailKind.TheVariants as kind
 use Rattle.source_state.specs.declared.look.LookFault.TheVariants as why
 use Rattle.query_core.specs.declared.ready.Ready.{Ready}
 use Rattle.query_core.specs.Driving.{AnswersOver}
@@ -46,8 +47,8 @@ EndsOver _ _ _ = ⊥
 
 -- a look fails for what happened outside: a call failed or was answered by garbled data, or the list was replaced by one of another version
 abbrev pub IsOutside : LookFault → Type 0
-IsOutside why.Failed = Unit {0}
-IsOutside why.Garbled = Unit {0}
+IsOutside (why.Call kind.Failed) = Unit {0}
+IsOutside (why.Call kind.Garbled) = Unit {0}
 IsOutside (why.Source (Moved had now)) = had ≢ now
 IsOutside _ = ⊥
 

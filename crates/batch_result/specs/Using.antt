@@ -3,8 +3,8 @@ use Rattle.std.specs.Prelude.{◌≡◌, ◌≢◌, ◌≤◌, ◌==◌, ◌&&�
 use Rattle.std.specs.List.{sum_by}
 use Rattle.tk_io.specs.Faults.{Rose}
 use Rattle.source_api.specs.declared.counts.Counts.{Counts}
-use Rattle.source_state.specs.declared.entry.FailKind.{FailKind}
-use Rattle.source_state.specs.declared.entry.FailKind.TheVariants as kind
+use Rattle.source_api.specs.declared.source.FailKind.{FailKind}
+use Rattle.source_api.specs.declared.source.FailKind.TheVariants as kind
 use Rattle.source_state.specs.declared.look.LookFault.{LookFault}
 use Rattle.source_state.specs.declared.look.LookFault.TheVariants as why
 use Rattle.source_state.specs.Log.{settled_in}
@@ -23,24 +23,24 @@ use Rattle.batch_result.specs.declared.batch.Use.{Use}
 
 -- a look's fault is that a call failed so
 abbrev pub is_fail : FailKind → LookFault → Bool
-is_fail kind.Failed why.Failed = true
-is_fail kind.Garbled why.Garbled = true
-is_fail kind.Memory why.Memory = true
+is_fail kind.Failed (why.Call kind.Failed) = true
+is_fail kind.Garbled (why.Call kind.Garbled) = true
+is_fail kind.Memory (why.Call kind.Memory) = true
 is_fail kind.Failed (why.Source fault) = false
 is_fail kind.Failed (why.Missing object) = false
 is_fail kind.Failed (why.AsksFull kept) = false
-is_fail kind.Failed why.Garbled = false
-is_fail kind.Failed why.Memory = false
+is_fail kind.Failed (why.Call kind.Garbled) = false
+is_fail kind.Failed (why.Call kind.Memory) = false
 is_fail kind.Garbled (why.Source fault) = false
 is_fail kind.Garbled (why.Missing object) = false
 is_fail kind.Garbled (why.AsksFull kept) = false
-is_fail kind.Garbled why.Failed = false
-is_fail kind.Garbled why.Memory = false
+is_fail kind.Garbled (why.Call kind.Failed) = false
+is_fail kind.Garbled (why.Call kind.Memory) = false
 is_fail kind.Memory (why.Source fault) = false
 is_fail kind.Memory (why.Missing object) = false
 is_fail kind.Memory (why.AsksFull kept) = false
-is_fail kind.Memory why.Failed = false
-is_fail kind.Memory why.Garbled = false
+is_fail kind.Memory (why.Call kind.Failed) = false
+is_fail kind.Memory (why.Call kind.Garbled) = false
 
 -- a query is refused because a call of this source failed so
 abbrev pub refuses_for : FailKind → ℕ → Inquiry → Option Refusal → Bool

@@ -9,6 +9,7 @@ ghost use Rattle.topk_theory.specs.Transcript.{list_at};
 ghost use Rattle.source_state.specs.State.{state_at};
 ghost use Rattle.batch_result.specs.Account.{IsAnsweredOf, IsReadByGrades, IsWithin, KeepsEach, one_readings, printed_readings};
 ghost use Rattle.batch_result.specs.Batches.{BatchState, BatchRun, IsBatch, size_at, use_at};
+ghost use Rattle.batch_result.specs.Cut.{IsCut};
 ghost use Rattle.batch_result.specs.Tables.{TellsTables, NoneMoved, EndsOver, EndsOrFails, lists_for};
 ghost use Rattle.batch_result.specs.ToldFaults.{HasToldCause};
 
@@ -36,6 +37,20 @@ pub fn told_tables_bound_the_uses()
     ensures kept { (run : BatchRun) (batch : BatchState) → (ran : IsBatch run batch) → (lists : List (List Row)) → run.told ≡ map Some lists
         → All (λ ready. IsTable ready.count (lists_for lists ready)) run.readies → (source : ℕ) → source < length run.sizes
         → KeepsEach (list_at lists source) (state_at ran.states source) (use_at batch.uses source) }
+{}
+
+/// Where memory was wanting for a batch the same bounds hold of what was read by then: no row of a source is wanted below the greatest depth to which
+/// the one run of a query reads it, no more rows come than its reach, no more objects are asked than these runs make random accesses to it, no more
+/// grades come, and each row that came is kept. And whatever the sources tell, one whose list can't be read in order gave no row.
+pub fn told_tables_bound_a_cut_batch()
+    ensures within { (run : BatchRun) → (cut : IsCut run) → (lists : List (List Row)) → run.told ≡ map Some lists
+        → All (λ ready. IsTable ready.count (lists_for lists ready)) run.readies → (source : ℕ) → source < length run.sizes
+        → IsWithin run.settings (size_at run.sizes source) source (one_readings lists run.readies) (use_at cut.uses source) }
+    ensures kept { (run : BatchRun) → (cut : IsCut run) → (lists : List (List Row)) → run.told ≡ map Some lists
+        → All (λ ready. IsTable ready.count (lists_for lists ready)) run.readies → (source : ℕ) → source < length run.sizes
+        → KeepsEach (list_at lists source) (state_at cut.states source) (use_at cut.uses source) }
+    ensures alone { (run : BatchRun) → (cut : IsCut run) → (source : ℕ) → source < length run.sizes
+        → All (IsReadByGrades source) run.readies → ((use_at cut.uses source).want ≡ 0) × ((use_at cut.uses source).rows ≡ 0) }
 {}
 
 /// Whatever the sources tell: where each query that reads a source is answered, no more is used of it than by the transcripts of the answers.

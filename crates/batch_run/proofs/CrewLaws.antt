@@ -80,6 +80,7 @@ left_of pool counts workers number readies before after h w = record {
   number_is = w.number ∙ h.number_is;
   name = λ source l. (w.knows.each source).name ∙ ap (λ (hold : Hold). hold.pass.1.name) (h.fresh source l);
   parts = λ source l. (w.knows.each source).parts ∙ ap (λ (hold : Hold). hold.pass.1.parts) (h.fresh source l);
+  began = w.began;
   worked = w.worked;
 }
 

@@ -1,10 +1,11 @@
 -- From what a crew did to a batch.
-use Rattle.std.proofs.Common.{◌≡◌, ◌≤◌, ◌<◌, ◌+◌, ◌-◌, ◌*◌, ◌^◌, inl, inr, ℕ, min, max, false, cond, Option, Some, None, List, [], length, map, reverse, All, Contains, IfSome, count_by, slice_index, slice_index_or, refl, sym, ap, subst, ◌∙◌, arith}
+use Rattle.std.proofs.Common.{◌≡◌, ◌≤◌, ◌<◌, ◌+◌, ◌-◌, ◌*◌, ◌^◌, inl, inr, ℕ, min, max, false, cond, Option, Some, None, List, [], ◌∷◌, length, map, reverse, All, Contains, IfSome, count_by, slice_index, slice_index_or, unwrap_or, refl, sym, ap, subst, ◌∙◌, arith}
 use Rattle.std.specs.List.{AllZip, sum_by}
 use Rattle.std.proofs.lemmas.List.{length-map}
+use Rattle.std.proofs.lemmas.List.Elements.{All-nil, All-cons}
 use Rattle.std.proofs.lemmas.List.Sums.{sum_by-cons, count_by-le-length}
 use Rattle.std.proofs.lemmas.Slice.Zip.{AllZip-long}
-use Rattle.topk_theory.proofs.AgreementLists.{contains_nil, contains_at}
+use Rattle.topk_theory.proofs.AgreementLists.{contains_nil, contains_at, contains_here, contains_there, contains_cases}
 use Rattle.ranked_list.specs.declared.row.Row.{Row}
 use Rattle.atomic_table.specs.Seated.{TableId}
 use Rattle.turn_lock.specs.declared.facts.Tally.{Tally}
@@ -12,8 +13,8 @@ use Rattle.turn_lock.specs.declared.known.Known.{Known}
 use Rattle.turn_lock.specs.Known.{Follows}
 use Rattle.source_api.specs.declared.counts.Counts.{Counts}
 use Rattle.source_state.specs.declared.entry.LogEntry.{LogEntry}
-use Rattle.source_state.specs.declared.entry.FailKind.{FailKind}
-use Rattle.source_state.specs.declared.entry.FailKind.TheVariants as kind
+use Rattle.source_api.specs.declared.source.FailKind.{FailKind}
+use Rattle.source_api.specs.declared.source.FailKind.TheVariants as kind
 use Rattle.source_state.specs.Log.{settled_in}
 use Rattle.source_state.proofs.Lists.{none_not_some}
 use Rattle.source_state.specs.State.{State, IsSound, last_count, state_at}
@@ -46,14 +47,15 @@ use Rattle.batch_run.specs.Shares.{share, share_from}
 use Rattle.batch_result.specs.Using.{is_refused_for, IsWantedBy, IsNamedBy, all_grades_asked, IsUsed, HasCounted}
 use Rattle.batch_result.specs.Refusing.{IsByOwnTurns}
 use Rattle.batch_result.specs.Batches.{batch_of, use_at, IsClosing, IsSpared, IsBatch}
-use Rattle.batch_run.specs.Working.{End, IsEndOf, DidOf, RanAll}
+use Rattle.batch_result.specs.Cut.{IsReadBy, IsOfBegun, begun, IsCut}
+use Rattle.batch_run.specs.Working.{End, IsEndOf, StoodIf, DidOf, RanAll}
 use Rattle.batch_run.specs.Slots.{SlotState, slot_at}
 use Rattle.batch_run.specs.Crews.{IsBase, HasLeft, HasFetched, Rejoins}
 use Rattle.batch_run.specs.Finishing.{AreShares, UsedOf, slots_run}
 use Rattle.batch_run.proofs.SumLaws.{sum_up, sum_up_bound, sum_by_most}
 use Rattle.batch_run.proofs.ShareLaws.{HasShares, whole_of, shares_add}
 use Rattle.batch_result.proofs.Places.{map_at, stands_at}
-use Rattle.batch_run.proofs.Picks.{Picked, picked, sum_ones, share_member, share_map, share_long, member_mapped}
+use Rattle.batch_run.proofs.Picks.{Picked, picked, sum_ones, share_member, share_map, share_long}
 use Rattle.batch_result.proofs.TruthLaws.{told_honest}
 use Rattle.batch_result.proofs.ShutLaws.{Shut, fetched_shut}
 use Rattle.batch_result.proofs.LaterLaws.{begins_on, at_most_on, IsAhead, ahead_of, all_later, served_later}
@@ -221,6 +223,105 @@ ended_at states holds ready end many ahead sound shut h =
           h.served;
     }
 
+-- a query that began, over the closing states
+pub record IsOver (states : List State) (ready : Ready) (q : Inquiry) : Type 0 where
+  pub of : IsOf ready q
+  pub served : IsServed states q
+
+abbrev OverIf : List State → Ready → Option Inquiry → Type 0
+OverIf states ready one = IfSome one (IsOver states ready)
+
+over_at : (states : List State) (holds : List Hold) (ready : Ready) (one : Option Inquiry) → length states ≡ length holds
+    → ((source : ℕ) → source < length holds → IsAhead (hold_at holds source).pass.1 (state_at states source))
+    → ((source : ℕ) → source < length holds → IsSound (state_at states source))
+    → ((source : ℕ) → source < length holds → Shut (state_at states source).log)
+    → StoodIf holds ready one → OverIf states ready one
+over_at states holds ready None many ahead sound shut h = tt
+over_at states holds ready (Some q) many ahead sound shut h =
+    let long : length holds ≡ length h.then_held = h.since.size in
+    let saw : (source : ℕ) → source < length holds → IsAhead (hold_at h.then_held source).pass.1 (state_at states source)
+    = λ source l.
+    let more = h.since.each source in
+    ahead_of (hold_at h.then_held source).pass.1 (hold_at holds source).pass.1 (state_at states source) more.follows more.name (ahead source l) in
+    record {
+      of = h.of;
+      served = served_later h.then_held states q
+          (all_later h.then_held states (many ∙ long)
+          (λ source l. saw source (omega (arith, l, long)))
+          (λ source l. sound source (omega (arith, l, long))) (λ source l. shut source (omega (arith, l, long))))
+          h.served;
+    }
+
+over_of : (states : List State) (ready : Ready) (one : Option Inquiry) → OverIf states ready one → IsOfBegun ready one
+over_of states ready None h = tt
+over_of states ready (Some q) h = h.of
+
+over_served : (states : List State) (readies : List Ready) (stood : List (Option Inquiry)) → AllZip (OverIf states) readies stood
+    → All (IsServed states) (begun stood)
+over_served states [] [] h = All-nil (IsServed states)
+over_served states [] (one ∷ stood) h = absurd h
+over_served states (ready ∷ readies) [] h = absurd h
+over_served states (ready ∷ readies) (None ∷ stood) h = over_served states readies stood h.1
+over_served states (ready ∷ readies) (Some q ∷ stood) h = All-cons (IsServed states) q (begun stood) h.0.served (over_served states readies stood h.1)
+
+-- how a worker's queries stood, by its number
+pub record BeganAt (workers : ℕ) (readies : List Ready) (number : ℕ) (worker : Worker) (stood : List (Option Inquiry)) : Type 0 where
+  pub each : AllZip (StoodIf worker.pass) (share workers number readies) stood
+  pub did : (source : ℕ) → DidOf (begun stood) source (hold_at worker.pass source)
+
+began_at : (pool : List TableId) (counts : List ℕ) (workers : ℕ) (readies : List Ready) (number : ℕ) (worker : Worker)
+    → HasLeft pool counts workers readies number worker → (stood : List (Option Inquiry)) × BeganAt workers readies number worker stood
+began_at pool counts workers readies number worker h = (
+  h.began.stood,
+  record { each = subst (λ n. AllZip (StoodIf worker.pass) (share workers n readies) h.began.stood) h.number_is h.began.each; did = h.began.did },
+)
+
+pub all_began : (pool : List TableId) (counts : List ℕ) (readies : List Ready) (workers : List Worker)
+    → ((i : ℕ) (d : Worker) → i < length workers → HasLeft pool counts (length workers) readies i (slice_index_or workers i d))
+    → Picked (BeganAt (length workers) readies) workers
+all_began pool counts readies workers left =
+    picked (BeganAt (length workers) readies) [] workers (λ i d l. began_at pool counts (length workers) readies i (slice_index_or workers i d) (left i d l))
+
+-- the queries that began, and where they stood
+begun_from : (stood : List (Option Inquiry)) (q : Inquiry) → Contains (begun stood) q → Contains stood (Some q)
+begun_from [] q c = absurd (contains_nil q c)
+begun_from (None ∷ stood) q c = contains_there None stood (Some q) (begun_from stood q c)
+begun_from (Some p ∷ stood) q c = elim (contains_cases p (begun stood) q c) [
+  | inl same ↦ subst (λ r. Contains (Some p ∷ stood) (Some r)) same (contains_here (Some p) stood)
+  | inr there ↦ contains_there (Some p) stood (Some q) (begun_from stood q there)
+]
+
+begun_has : (stood : List (Option Inquiry)) (q : Inquiry) → Contains stood (Some q) → Contains (begun stood) q
+begun_has [] q c = absurd (contains_nil (Some q) c)
+begun_has (None ∷ stood) q c = elim (contains_cases None stood (Some q) c) [
+  | inl bad ↦ absurd (none_not_some bad)
+  | inr there ↦ begun_has stood q there
+]
+begun_has (Some p ∷ stood) q c = elim (contains_cases (Some p) stood (Some q) c) [
+  | inl same ↦
+      let is : p ≡ q = ap (λ (o : Option Inquiry). unwrap_or o p) same in
+      subst (Contains (p ∷ begun stood)) is (contains_here p (begun stood))
+  | inr there ↦ contains_there p (begun stood) q (begun_has stood q there)
+]
+
+-- queries that ended all began
+begun_ended : (ends : List End) → begun (map (λ (end : End). Some end.0) ends) ≡ map (λ (end : End). end.0) ends
+begun_ended [] = refl
+begun_ended (end ∷ ends) = ap (λ qs. end.0 ∷ qs) (begun_ended ends)
+
+-- the grades that a query asked for, if it began
+abbrev asked_if : ℕ → Option Inquiry → ℕ
+asked_if source None = 0
+asked_if source (Some q) = grades_asked q source
+
+asked_more : (source : ℕ) (one : Option Inquiry) (stood : List (Option Inquiry))
+    → all_grades_asked (begun (one ∷ stood)) source ≡ asked_if source one + all_grades_asked (begun stood) source
+asked_more source None stood =
+    let none : asked_if source None ≡ 0 = refl in
+    let same : all_grades_asked (begun (None ∷ stood)) source ≡ all_grades_asked (begun stood) source = refl in
+    omega (arith, none, same)
+asked_more source (Some q) stood = sum_by-cons (λ (p : Inquiry). grades_asked p source) q (begun stood)
+
 -- what worked together
 pub record Situation (pool : List TableId) (settings : Settings) (counts : List ℕ) (readies : List Ready) (before after : List SlotState) (workers : List Worker)
     (base pass : List Hold) (feeds : List Feed) (states : List State) (uses : List Use) : Type 0 where
@@ -285,6 +386,180 @@ module _ (pool : List TableId) (settings : Settings) (counts : List ℕ) (readie
   some : 0 < length workers
   some = let size = h.size in let one = h.settings_are.some_workers in omega (arith, size, one)
 
+  -- the counts and lists of the slots, as a run has them
+  counts_before : (source : ℕ) → source < length counts → counts_at (map (λ (slot : SlotState). slot.counts) before) source ≡ (slot_at before source).counts
+  counts_before source s = map_at (λ (slot : SlotState). slot.counts) before source _ _ (let e = h.slots.0 in omega (arith, s, e))
+
+  counts_now : (source : ℕ) → source < length counts → counts_at (map (λ (slot : SlotState). slot.counts) after) source ≡ (slot_at after source).counts
+  counts_now source s = map_at (λ (slot : SlotState). slot.counts) after source _ _ (let e = h.slots.1 in omega (arith, s, e))
+
+  version_before : (source : ℕ) → source < length counts → version_at (map (λ (slot : SlotState). slot.version) before) source ≡ (slot_at before source).version
+  version_before source s = map_at (λ (slot : SlotState). slot.version) before source _ _ (let e = h.slots.0 in omega (arith, s, e))
+
+  told_before : (source : ℕ) → source < length counts → told_at (map (λ (slot : SlotState). slot.told) before) source ≡ (slot_at before source).told
+  told_before source s = map_at (λ (slot : SlotState). slot.told) before source _ _ (let e = h.slots.0 in omega (arith, s, e))
+
+  -- with how the queries of each worker stood
+  module _ (stood : List (Option Inquiry))
+      (did : (i : ℕ) (d : Worker) → i < length workers → (source : ℕ)
+      → DidOf (begun (share_from (length workers) i 0 stood)) source (hold_at (slice_index_or workers i d).pass source)) where
+    abbrev those : List Inquiry
+    those = begun stood
+
+    within : (i : ℕ) (q : Inquiry) → Contains (begun (share_from (length workers) i 0 stood)) q → Contains those q
+    within i q c = begun_has stood q (share_member (length workers) i 0 stood (Some q) (begun_from (share_from (length workers) i 0 stood) q c))
+
+    -- the greatest depth that was wanted
+    wanted_by : (source depth : ℕ) (i : ℕ) → IsWantedBy (begun (share_from (length workers) i 0 stood)) source depth
+        → IsWantedBy those source depth
+    wanted_by source depth i (inl none) = inl none
+    wanted_by source depth i (inr one) =
+        inr (one.0, within i one.0 one.1, one.2)
+
+    high_by : (source : ℕ) → source < length counts → IsWantedBy those source (hold_at pass source).pass.1.high
+    high_by source s = elim (h.rejoins.high source (there source s)) [
+      | inl same ↦ inl (same ∙ h.base_is.high source s)
+      | inr one ↦
+          let place = one.1.0 in
+          let within : place < length workers = subst (λ n. place < n) (length-map workers (λ (w : Worker). w.pass)) one.1.1 in
+          let e = (stands_at workers place within).item in
+          let is : (slice_index_or workers place e).pass ≡ one.0 = sym (pass_at workers place one.0 e within) ∙ one.1.2 in
+          subst (IsWantedBy those source) (sym (one.2 ∙ ap (λ (p : List Hold). (hold_at p source).pass.1.high) (sym is)))
+          (wanted_by source (hold_at (slice_index_or workers place e).pass source).pass.1.high place (did place e within source).rows)
+    ]
+
+    want_by : (source : ℕ) → source < length counts → IsWantedBy those source (state_at states source).want
+    want_by source s =
+        let closed = h.closed.each source (there source s) in
+        let none : (feed_at feeds source).pass.1.high ≡ 0 = (h.fetched source s).feeds.high in
+        let want : (state_at states source).want ≡ (hold_at pass source).pass.1.high = closed.want ∙ (ap (λ n. max n (hold_at pass source).pass.1.high) none ∙ omega arith) in
+        subst (IsWantedBy those source) (sym want) (high_by source s)
+
+    -- what was asked
+    asked_by : (source : ℕ) → source < length counts → (hold_at pass source).pass.1.asked ≤ all_grades_asked those source
+    asked_by source s =
+        let g : ℕ → ℕ = λ i. all_grades_asked (begun (share_from (length workers) i 0 stood)) source in
+        let m : List (Option Inquiry) → ℕ = λ xs. all_grades_asked (begun xs) source in
+        let long = length-map workers (λ (w : Worker). w.pass) in
+        let most : sum_by (λ (p : List Hold). (hold_at p source).pass.1.asked) (passes workers) ≤ sum_up g (length (passes workers)) =
+        sum_by_most (λ (p : List Hold). (hold_at p source).pass.1.asked) g (passes workers)
+        (λ i d l.
+        let within : i < length workers = subst (λ n. i < n) long l in
+        let e = (stands_at workers i within).item in
+        subst (λ (p : List Hold). (hold_at p source).pass.1.asked ≤ g i) (sym (pass_at workers i d e within)) (did i e within source).grades) in
+        let all : sum_up g (length workers) ≡ m stood =
+        shares_add (asked_if source) m refl (λ x xs. asked_more source x xs) (length workers) 0 stood some in
+        let mine = h.rejoins.asked source (there source s) in
+        let none = h.base_is.asked source s in
+        let up : sum_up g (length (passes workers)) ≡ sum_up g (length workers) = ap (sum_up g) long in
+        omega (arith, most, all, mine, none, up)
+
+    -- which objects were asked
+    named_from : (source object i : ℕ) → IsNamedBy (begun (share_from (length workers) i 0 stood)) source object
+        → IsNamedBy those source object
+    named_from source object i one =
+        (one.0, within i one.0 one.1, one.2)
+
+    mine_by : (source object : ℕ) → source < length counts → Contains (hold_at pass source).pass.1.mine object → IsNamedBy those source object
+    mine_by source object s c = elim (h.rejoins.mine source (there source s) object c) [
+      | inl base ↦ absurd (contains_nil object (subst (λ os. Contains os object) (h.base_is.mine source s) base))
+      | inr one ↦
+          let place = one.1.0 in
+          let within : place < length workers = subst (λ n. place < n) (length-map workers (λ (w : Worker). w.pass)) one.1.1 in
+          let e = (stands_at workers place within).item in
+          let is : (slice_index_or workers place e).pass ≡ one.0 = sym (pass_at workers place one.0 e within) ∙ one.1.2 in
+          named_from source object place ((did place e within source).mine object (subst (λ (p : List Hold). Contains (hold_at p source).pass.1.mine object) (sym is) one.2))
+    ]
+
+    named_by : (source object : ℕ) → source < length counts → Contains (state_at states source).asks object → IsNamedBy those source object
+    named_by source object s c =
+        let none : (feed_at feeds source).pass.1.mine ≡ [] = (h.fetched source s).feeds.mine in
+        elim ((h.closed.each source (there source s)).mine object c) [
+          | inl fed ↦ absurd (contains_nil object (subst (λ os. Contains os object) none fed))
+          | inr passed ↦ mine_by source object s passed
+        ]
+
+    asks_by : (source : ℕ) → source < length counts → length (state_at states source).asks ≤ all_grades_asked those source
+    asks_by source s =
+        let closed = (h.closed.each source (there source s)).asks in
+        let none : (feed_at feeds source).pass.1.asked ≡ 0 = (h.fetched source s).feeds.asked in
+        let asked = asked_by source s in
+        omega (arith, closed, none, asked)
+
+    used_by : (source : ℕ) → source < length counts
+        → IsUsed settings those source (state_at states source) (slot_at before source).counts (slot_at after source).counts (use_at uses source)
+    used_by source s =
+        let u = h.used source s in
+        let metered = (h.fetched source s).metered in
+        let called = called_for settings.page settings.ahead (slot_at after source).fetched (slot_at before source).counts (slot_at after source).counts (first_feed (lock_at pool source) source (slice_index counts source)).pass.1
+        (feed_at feeds source).pass.1 (hold_at pass source).pass.1 (state_at states source) h.settings_are.some_rows metered (h.closed.each source (there source s)) in
+        let rows = called.rows in
+        let same = u.rows in
+        record {
+          want = u.want;
+          wanted = subst (IsWantedBy those source) (sym u.want) (want_by source s);
+          asks = u.asks;
+          asked = subst (λ n. n ≤ all_grades_asked those source) (sym u.asks) (asks_by source s);
+          named = λ object c. named_by source object s c;
+          rows = subst (λ n. WentUp n (slot_at before source).counts.rows_given (slot_at after source).counts.rows_given) (sym u.rows) metered.rows;
+          reach = subst (λ n. (use_at uses source).rows ≤ reach_of n settings.page settings.ahead (state_at states source).count) (sym u.want) (omega (arith, rows, same));
+          grades = subst (λ n. WentUp n (slot_at before source).counts.grades_given (slot_at after source).counts.grades_given) (sym u.grades) metered.grades;
+          once = subst (λ n. n ≤ (use_at uses source).asks) (sym u.grades) (subst (λ n. (slot_at after source).fetched.grades ≤ n) (sym u.asks) called.grades);
+          settled =
+              let grades : 0 + (slot_at after source).fetched.grades ≤ length (settled_in (feed_at feeds source).pass.1.seen) = metered.settled in
+              let log : length (settled_in (state_at states source).log) ≡ length (settled_in (feed_at feeds source).pass.1.seen)
+              = ap (λ log. length (settled_in log)) (h.closed.each source (there source s)).log in
+              let given = u.grades in
+              omega (arith, grades, log, given);
+          comes = came_closed (feed_at feeds source).pass.1 (hold_at pass source).pass.1 (state_at states source) (slot_at after source).fetched.rows (use_at uses source).rows
+              (h.closed.each source (there source s)) u.rows (metered.comes refl);
+        }
+
+    reads : All (IsServed states) those → IsReadBy (slots_run settings counts readies before after) those states uses
+    reads served = record {
+      many = h.closed.size ∙ h.base_is.size;
+      closing = λ source s.
+          subst (λ t. IsClosing source (slice_index counts source) t (state_at states source)) (sym (told_before source s)) (closing source s);
+      served = served;
+      used = λ source s.
+          subst (λ c. IsUsed settings those source (state_at states source) c (counts_at (map (λ (slot : SlotState). slot.counts) after) source) (use_at uses source)) (sym (counts_before source s))
+          (subst (λ c. IsUsed settings those source (state_at states source) (slot_at before source).counts c (use_at uses source)) (sym (counts_now source s)) (used_by source s));
+    }
+
+  overs : (i : ℕ) (d : Worker) → i < length workers → (ready : Ready) (one : Option Inquiry) → StoodIf (slice_index_or workers i d).pass ready one
+      → OverIf states ready one
+  overs i d l ready one is =
+      let size = h.base_is.size in
+      let own = (h.left i d l).own.size in
+      let closed = h.closed.size in
+      let long : length (slice_index_or workers i d).pass ≡ length counts = own ∙ size in
+      over_at states (slice_index_or workers i d).pass ready one (closed ∙ sym own)
+      (λ source s. ahead i d l source (subst (λ n. source < n) long s))
+      (λ source s. (closing source (subst (λ n. source < n) long s)).sound)
+      (λ source s. shut source (subst (λ n. source < n) long s)) is
+
+  -- how each query stood, whether it ended or not
+  module _ (p : Picked (BeganAt (length workers) readies) workers) where
+    over : HasShares (OverIf states) (length workers) 0 readies p.pick
+    over = whole_of (OverIf states) (length workers) 0 readies p.pick some
+        (λ i l.
+        let e = stands_at workers i l in
+        zip_map (StoodIf (slice_index_or workers i e.item).pass) (OverIf states) (overs i e.item l) (share_from (length workers) i 0 readies) (p.pick i) (p.is i e.item l).each)
+
+    did_begun : (i : ℕ) (d : Worker) → i < length workers → (source : ℕ)
+        → DidOf (begun (share_from (length workers) i 0 over.whole)) source (hold_at (slice_index_or workers i d).pass source)
+    did_begun i d l source =
+        subst (λ xs. DidOf (begun xs) source (hold_at (slice_index_or workers i d).pass source)) (sym (over.shares i l)) ((p.is i d l).did source)
+
+    pub is_cut : IsCut (slots_run settings counts readies before after)
+    is_cut = record {
+      stood = over.whole;
+      states = states;
+      uses = uses;
+      of = zip_map (OverIf states) IsOfBegun (over_of states) readies over.whole over.follows;
+      read = reads over.whole did_begun (over_served states readies over.whole over.follows);
+    }
+
   -- with what each worker's queries came to
   module _ (p : Picked (EndsAt (length workers) readies) workers) where
     pub whole : HasShares (IsEnded states) (length workers) 0 readies p.pick
@@ -322,83 +597,6 @@ module _ (pool : List TableId) (settings : Settings) (counts : List ℕ) (readie
 
     ends_all : AllZip EndsAs queries (map (λ (end : End). end.1) ends)
     ends_all = both_parts (IsEnded states) (λ (end : End). end.0) (λ (end : End). end.1) EndsAs (λ ready end is. is.ends) readies ends whole.follows
-
-    -- the greatest depth that was wanted
-    wanted_by : (source depth : ℕ) (i : ℕ) → IsWantedBy (map (λ (end : End). end.0) (share_from (length workers) i 0 ends)) source depth
-        → IsWantedBy queries source depth
-    wanted_by source depth i (inl none) = inl none
-    wanted_by source depth i (inr one) =
-        inr (one.0, member_mapped (λ (end : End). end.0) (share_from (length workers) i 0 ends) ends (λ x c. share_member (length workers) i 0 ends x c) one.0 one.1, one.2)
-
-    high_by : (source : ℕ) → source < length counts → IsWantedBy queries source (hold_at pass source).pass.1.high
-    high_by source s = elim (h.rejoins.high source (there source s)) [
-      | inl same ↦ inl (same ∙ h.base_is.high source s)
-      | inr one ↦
-          let place = one.1.0 in
-          let within : place < length workers = subst (λ n. place < n) (length-map workers (λ (w : Worker). w.pass)) one.1.1 in
-          let e = (stands_at workers place within).item in
-          let is : (slice_index_or workers place e).pass ≡ one.0 = sym (pass_at workers place one.0 e within) ∙ one.1.2 in
-          subst (IsWantedBy queries source) (sym (one.2 ∙ ap (λ (p : List Hold). (hold_at p source).pass.1.high) (sym is)))
-          (wanted_by source (hold_at (slice_index_or workers place e).pass source).pass.1.high place (did place e within source).rows)
-    ]
-
-    want_by : (source : ℕ) → source < length counts → IsWantedBy queries source (state_at states source).want
-    want_by source s =
-        let closed = h.closed.each source (there source s) in
-        let none : (feed_at feeds source).pass.1.high ≡ 0 = (h.fetched source s).feeds.high in
-        let want : (state_at states source).want ≡ (hold_at pass source).pass.1.high = closed.want ∙ (ap (λ n. max n (hold_at pass source).pass.1.high) none ∙ omega arith) in
-        subst (IsWantedBy queries source) (sym want) (high_by source s)
-
-    -- what was asked
-    asked_by : (source : ℕ) → source < length counts → (hold_at pass source).pass.1.asked ≤ all_grades_asked queries source
-    asked_by source s =
-        let g : ℕ → ℕ = λ i. all_grades_asked (map (λ (end : End). end.0) (share_from (length workers) i 0 ends)) source in
-        let m : List End → ℕ = λ es. all_grades_asked (map (λ (end : End). end.0) es) source in
-        let long = length-map workers (λ (w : Worker). w.pass) in
-        let most : sum_by (λ (p : List Hold). (hold_at p source).pass.1.asked) (passes workers) ≤ sum_up g (length (passes workers)) =
-        sum_by_most (λ (p : List Hold). (hold_at p source).pass.1.asked) g (passes workers)
-        (λ i d l.
-        let within : i < length workers = subst (λ n. i < n) long l in
-        let e = (stands_at workers i within).item in
-        subst (λ (p : List Hold). (hold_at p source).pass.1.asked ≤ g i) (sym (pass_at workers i d e within)) (did i e within source).grades) in
-        let all : sum_up g (length workers) ≡ m ends =
-        shares_add (λ (end : End). grades_asked end.0 source) m refl (λ x es. sum_by-cons (λ q. grades_asked q source) x.0 (map (λ (end : End). end.0) es)) (length workers) 0 ends some in
-        let mine = h.rejoins.asked source (there source s) in
-        let none = h.base_is.asked source s in
-        let up : sum_up g (length (passes workers)) ≡ sum_up g (length workers) = ap (sum_up g) long in
-        omega (arith, most, all, mine, none, up)
-
-    -- which objects were asked
-    named_from : (source object i : ℕ) → IsNamedBy (map (λ (end : End). end.0) (share_from (length workers) i 0 ends)) source object
-        → IsNamedBy queries source object
-    named_from source object i one =
-        (one.0, member_mapped (λ (end : End). end.0) (share_from (length workers) i 0 ends) ends (λ x c. share_member (length workers) i 0 ends x c) one.0 one.1, one.2)
-
-    mine_by : (source object : ℕ) → source < length counts → Contains (hold_at pass source).pass.1.mine object → IsNamedBy queries source object
-    mine_by source object s c = elim (h.rejoins.mine source (there source s) object c) [
-      | inl base ↦ absurd (contains_nil object (subst (λ os. Contains os object) (h.base_is.mine source s) base))
-      | inr one ↦
-          let place = one.1.0 in
-          let within : place < length workers = subst (λ n. place < n) (length-map workers (λ (w : Worker). w.pass)) one.1.1 in
-          let e = (stands_at workers place within).item in
-          let is : (slice_index_or workers place e).pass ≡ one.0 = sym (pass_at workers place one.0 e within) ∙ one.1.2 in
-          named_from source object place ((did place e within source).mine object (subst (λ (p : List Hold). Contains (hold_at p source).pass.1.mine object) (sym is) one.2))
-    ]
-
-    named_by : (source object : ℕ) → source < length counts → Contains (state_at states source).asks object → IsNamedBy queries source object
-    named_by source object s c =
-        let none : (feed_at feeds source).pass.1.mine ≡ [] = (h.fetched source s).feeds.mine in
-        elim ((h.closed.each source (there source s)).mine object c) [
-          | inl fed ↦ absurd (contains_nil object (subst (λ os. Contains os object) none fed))
-          | inr passed ↦ mine_by source object s passed
-        ]
-
-    asks_by : (source : ℕ) → source < length counts → length (state_at states source).asks ≤ all_grades_asked queries source
-    asks_by source s =
-        let closed = (h.closed.each source (there source s)).asks in
-        let none : (feed_at feeds source).pass.1.asked ≡ 0 = (h.fetched source s).feeds.asked in
-        let asked = asked_by source s in
-        omega (arith, closed, none, asked)
 
     -- the queries that are refused for a fail of a kind, of which each worker was shown so many
     few_refused : (what : FailKind) (source number : ℕ)
@@ -458,55 +656,28 @@ module _ (pool : List TableId) (settings : Settings) (counts : List ℕ) (readie
               ];
         }
 
-    used_by : (source : ℕ) → source < length counts
-        → IsUsed settings queries source (state_at states source) (slot_at before source).counts (slot_at after source).counts (use_at uses source)
-    used_by source s =
-        let u = h.used source s in
-        let metered = (h.fetched source s).metered in
-        let called = called_for settings.page settings.ahead (slot_at after source).fetched (slot_at before source).counts (slot_at after source).counts (first_feed (lock_at pool source) source (slice_index counts source)).pass.1
-        (feed_at feeds source).pass.1 (hold_at pass source).pass.1 (state_at states source) h.settings_are.some_rows metered (h.closed.each source (there source s)) in
-        let rows = called.rows in
-        let same = u.rows in
-        record {
-          want = u.want;
-          wanted = subst (IsWantedBy queries source) (sym u.want) (want_by source s);
-          asks = u.asks;
-          asked = subst (λ n. n ≤ all_grades_asked queries source) (sym u.asks) (asks_by source s);
-          named = λ object c. named_by source object s c;
-          rows = subst (λ n. WentUp n (slot_at before source).counts.rows_given (slot_at after source).counts.rows_given) (sym u.rows) metered.rows;
-          reach = subst (λ n. (use_at uses source).rows ≤ reach_of n settings.page settings.ahead (state_at states source).count) (sym u.want) (omega (arith, rows, same));
-          grades = subst (λ n. WentUp n (slot_at before source).counts.grades_given (slot_at after source).counts.grades_given) (sym u.grades) metered.grades;
-          once = subst (λ n. n ≤ (use_at uses source).asks) (sym u.grades) (subst (λ n. (slot_at after source).fetched.grades ≤ n) (sym u.asks) called.grades);
-          settled =
-              let grades : 0 + (slot_at after source).fetched.grades ≤ length (settled_in (feed_at feeds source).pass.1.seen) = metered.settled in
-              let log : length (settled_in (state_at states source).log) ≡ length (settled_in (feed_at feeds source).pass.1.seen)
-              = ap (λ log. length (settled_in log)) (h.closed.each source (there source s)).log in
-              let given = u.grades in
-              omega (arith, grades, log, given);
-          comes = came_closed (feed_at feeds source).pass.1 (hold_at pass source).pass.1 (state_at states source) (slot_at after source).fetched.rows (use_at uses source).rows
-              (h.closed.each source (there source s)) u.rows (metered.comes refl);
-        }
+    -- all of them began
+    abbrev began : List (Option Inquiry)
+    began = map (λ (end : End). Some end.0) ends
 
-    -- the counts and lists of the slots, as a run has them
-    counts_before : (source : ℕ) → source < length counts → counts_at (map (λ (slot : SlotState). slot.counts) before) source ≡ (slot_at before source).counts
-    counts_before source s = map_at (λ (slot : SlotState). slot.counts) before source _ _ (let e = h.slots.0 in omega (arith, s, e))
+    did_ended : (i : ℕ) (d : Worker) → i < length workers → (source : ℕ)
+        → DidOf (begun (share_from (length workers) i 0 began)) source (hold_at (slice_index_or workers i d).pass source)
+    did_ended i d l source =
+        subst (λ qs. DidOf qs source (hold_at (slice_index_or workers i d).pass source))
+        (sym (ap begun (sym (share_map (λ (end : End). Some end.0) (length workers) i 0 ends)) ∙ begun_ended (share_from (length workers) i 0 ends)))
+        (did i d l source)
 
-    counts_now : (source : ℕ) → source < length counts → counts_at (map (λ (slot : SlotState). slot.counts) after) source ≡ (slot_at after source).counts
-    counts_now source s = map_at (λ (slot : SlotState). slot.counts) after source _ _ (let e = h.slots.1 in omega (arith, s, e))
-
-    version_before : (source : ℕ) → source < length counts → version_at (map (λ (slot : SlotState). slot.version) before) source ≡ (slot_at before source).version
-    version_before source s = map_at (λ (slot : SlotState). slot.version) before source _ _ (let e = h.slots.0 in omega (arith, s, e))
-
-    told_before : (source : ℕ) → source < length counts → told_at (map (λ (slot : SlotState). slot.told) before) source ≡ (slot_at before source).told
-    told_before source s = map_at (λ (slot : SlotState). slot.told) before source _ _ (let e = h.slots.0 in omega (arith, s, e))
+    all_read : IsReadBy (slots_run settings counts readies before after) queries states uses
+    all_read =
+        subst (λ qs. IsReadBy (slots_run settings counts readies before after) qs states uses) (begun_ended ends)
+        (reads began did_ended (subst (All (IsServed states)) (sym (begun_ended ends)) served_all))
 
     pub is_batch : IsBatch (slots_run settings counts readies before after) (batch_of (map (λ (end : End). end.1) ends) uses)
-    is_batch = record {
+    is_batch = let all = all_read in record {
       states = states;
       queries = queries;
-      many = h.closed.size ∙ h.base_is.size;
-      closing = λ source s.
-          subst (λ t. IsClosing source (slice_index counts source) t (state_at states source)) (sym (told_before source s)) (closing source s);
+      many = all.many;
+      closing = all.closing;
       of = of_ended;
       served = served_all;
       ends = ends_all;
@@ -514,9 +685,7 @@ module _ (pool : List TableId) (settings : Settings) (counts : List ℕ) (readie
       spared = spared_all;
       own = own_all;
       uses = h.uses_many;
-      used = λ source s.
-          subst (λ c. IsUsed settings queries source (state_at states source) c (counts_at (map (λ (slot : SlotState). slot.counts) after) source) (use_at uses source)) (sym (counts_before source s))
-          (subst (λ c. IsUsed settings queries source (state_at states source) (slot_at before source).counts c (use_at uses source)) (sym (counts_now source s)) (used_by source s));
+      used = all.used;
       counted = λ source s.
           subst (λ v. HasCounted settings.workers queries source (state_at states source) v (counts_at (map (λ (slot : SlotState). slot.counts) before) source) (counts_at (map (λ (slot : SlotState). slot.counts) after) source)) (sym (version_before source s))
           (subst (λ c. HasCounted settings.workers queries source (state_at states source) (slot_at before source).version c (counts_at (map (λ (slot : SlotState). slot.counts) after) source)) (sym (counts_before source s))

@@ -1,5 +1,5 @@
 -- What hands leave, taken together.
-use Rattle.std.proofs.Common.{◌≡◌, ◌≤◌, ◌<◌, ◌+◌, ℕ, true, false, Option, Some, List, [], ◌∷◌, ◌++◌, All, length, map, slice_index_or, refl, sym, ap, subst, ◌∙◌, inl, inr, arith, le_refl}
+use Rattle.std.proofs.Common.{◌≡◌, ◌≤◌, ◌<◌, ◌+◌, ℕ, true, Option, Some, List, [], ◌∷◌, ◌++◌, All, length, map, slice_index_or, refl, sym, ap, subst, ◌∙◌, inl, inr, arith, le_refl}
 use Rattle.std.specs.List.{slice_set}
 use Rattle.std.proofs.lemmas.Bool.{cases_lt}
 use Rattle.std.specs.Prelude.{IfSome, reverse}
@@ -27,7 +27,7 @@ use Rattle.batch_run.specs.Working.{IsAtWork, Worked, AllWorked}
 use Rattle.batch_run.specs.Slots.{state_of, HasFeeder, Fetches, AllFetch}
 use Rattle.fetcher.specs.Posting.{ArePosts, AreServed}
 use Rattle.batch_run.specs.Handing.{AllHands, AreSpared}
-use Rattle.batch_run.proofs.WorkLaws.{knows_same}
+use Rattle.batch_run.proofs.WorkLaws.{begun_idle, knows_same}
 
 -- the workers before a place are short of memory, and else all stay
 pub record SparedTo (place : ℕ) (before now : List Worker) : Type 0 where
@@ -65,6 +65,7 @@ spared_worked pool workers readies before after s at = record {
     number = refl;
     own = (at i d l).own;
     knows = knows_same (slice_index_or before i d).pass;
+    began = begun_idle workers readies (record (slice_index_or before i d) { short = true }) (at i d l).idle;
     worked = λ long. absurd (cc);
   };
 }

@@ -18,3 +18,4 @@ pub mod GatherLaws
 pub mod UseLaws
 pub mod FinishLaws
 pub mod RunLaws
+pub mod UncalledLaws

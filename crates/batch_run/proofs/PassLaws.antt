@@ -1,5 +1,5 @@
 -- Passes to the posts that are split off and joined again.
-use Rattle.std.proofs.Common.{◌≡◌, ◌<◌, ◌+◌, ◌-◌, ℕ, Some, None, refl, sym, ap, ◌∙◌, arith}
+use Rattle.std.proofs.Common.{◌≡◌, ◌+◌, ◌-◌, ℕ, None, sym, ap, ◌∙◌, arith}
 use Rattle.atomic_table.specs.Seated.{TableId}
 use Rattle.keyed_lock.specs.declared.hold.Hold.{Hold}
 use Rattle.keyed_lock.specs.Hold.{Lock, IsPassOf, with_parts, joined}

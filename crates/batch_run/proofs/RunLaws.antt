@@ -1,21 +1,24 @@
 -- A crew that has run, and lists and counts of the slots.
-use Rattle.std.proofs.Common.{◌≡◌, ◌<◌, ℕ, zero, suc, Bool, true, false, ◌||◌, Option, List, [], ◌∷◌, length, map, All, slice_index_or, refl, sym, ap, subst, ◌∙◌, arith}
+use Rattle.std.proofs.Common.{◌≡◌, ◌≤◌, ◌<◌, vec_capacity, slice_index, ℕ, zero, suc, Bool, true, false, not, ◌||◌, Option, Result, Ok, Err, OnErr, List, [], ◌∷◌, length, map, All, slice_index_or, refl, sym, ap, subst, ◌∙◌, arith}
 use Rattle.std.specs.List.{AllZip, list_any}
 use Rattle.std.proofs.lemmas.List.{length-map}
 use Rattle.ranked_list.specs.declared.row.Row.{Row}
 use Rattle.atomic_table.specs.Seated.{TableId}
 use Rattle.source_pool.specs.declared.hold.Hold.{Hold}
-use Rattle.source_pool.specs.Passes.{hold_at, IsPassOf}
+use Rattle.source_pool.specs.Passes.{hold_at, feed_at, IsPassOf, AreFeedersOf}
 use Rattle.source_api.specs.declared.counts.Counts.{Counts}
 use Rattle.source_api.specs.Counting.{NoneFell}
 use Rattle.fetcher.specs.declared.slot.Slot.{Slot}
 use Rattle.limits.specs.declared.settings.Settings.{Settings}
 use Rattle.query_core.specs.declared.ready.Ready.{Ready}
 use Rattle.batch_run.specs.declared.work.Worker.{Worker}
-use Rattle.batch_run.specs.Slots.{SlotState, states_of, slot_at}
+use Rattle.batch_run.specs.Slots.{SlotState, states_of, slot_at, AllFetch, AreLent, AreTakenBack}
+use Rattle.batch_run.specs.Working.{AllWorked}
+use Rattle.batch_run.proofs.CrewLaws.{ran_parts}
+use Rattle.batch_run.proofs.SlotLaws.{all_fetched}
 use Rattle.batch_result.specs.Batches.{BatchRun, run_of}
 use Rattle.batch_run.specs.declared.hire.Crew.{Crew}
-use Rattle.batch_run.specs.Crews.{HasLeft, HasRun}
+use Rattle.batch_run.specs.Crews.{HasLeft, HasRun, IsBase, IsNewCrew, HasFetched}
 use Rattle.batch_run.specs.Finishing.{slots_run}
 use Rattle.batch_result.proofs.Places.{stands_at, map_at}
 use Rattle.batch_run.proofs.JoinLaws.{passes}
@@ -92,6 +95,15 @@ module _ {S : Type 0} (list : S → Option (List Row)) (counts : S → Counts) (
   counts_same [] = tt
   counts_same (slot ∷ slots) = (record { faults = omega arith; garbles = omega arith; moves = omega arith; rows_given = omega arith; grades_given = omega arith }, counts_same slots)
 
+pub failed_so : {A E P Q : Type 0} (r : Result A E) → (P → Q) → OnErr r P → OnErr r Q
+failed_so (Ok x) f h = tt
+failed_so (Err e) f h = f h
+
+-- whether none wanted memory, as it is told
+pub none_wants : (wants told : Bool) → told ≡ not wants → told ≡ true → wants ≡ false
+none_wants true told is enough = let bad : true ≡ false = sym enough ∙ is in absurd (cc)
+none_wants false told is enough = refl
+
 -- no worker wanted memory
 pub none_short : (workers : List Worker) → list_any (λ (w : Worker). w.short) workers ≡ false → (i : ℕ) (d : Worker) → i < length workers
     → (slice_index_or workers i d).short ≡ false
@@ -130,6 +142,31 @@ pub parts_left : (pool : List TableId) (settings : Settings) (counts : List ℕ)
     → ((i : ℕ) (d : Worker) → i < length workers → HasLeft pool counts settings.workers readies i (slice_index_or workers i d))
     → (i : ℕ) (d : Worker) → i < length workers → (source : ℕ) → source < length counts → (hold_at (slice_index_or workers i d).pass source).pass.1.parts ≡ 1
 parts_left pool settings counts readies workers each i d l source s = (each i d l).parts source s
+
+module _ {S : Type 0} (list : S → Option (List Row)) (counts : S → Counts) (at_hand : S → ℕ) where
+  -- a new crew has run once its feeders were lent, its workers worked, and its feeders were taken back
+  pub has_run : (settings : Settings) (sizes : List ℕ) (readies : List Ready) (crew now : Crew) (before lent fetched after : List (Slot S))
+      → IsNewCrew sizes (length readies) settings.workers crew → length sizes ≡ length before
+      → AreLent list counts at_hand crew.feeders.items before lent → AllFetch list counts at_hand crew.pool settings lent fetched
+      → AreTakenBack list counts at_hand fetched now.feeders.items after
+      → AllWorked crew.pool (length crew.workers.items) readies crew.workers.items now.workers.items
+      → now.pool ≡ crew.pool → now.pass ≡ crew.pass → now.endings ≡ crew.endings → now.uses ≡ crew.uses
+      → HasRun settings sizes readies (states_of list counts at_hand before) (states_of list counts at_hand after) now
+  has_run settings sizes readies crew now before lent fetched after new many given fetch back worked pool pass endings uses =
+      let all = all_fetched list counts at_hand crew.pool settings sizes crew.feeders.items now.feeders.items before lent fetched after new.hiring.base.size many given fetch back new.fed in
+      let parts = ran_parts settings sizes readies crew.pool crew.pass crew.workers.items now.workers.items now.workers.items new.hiring new.size worked refl in
+      record {
+        base = subst (λ (z : List TableId × List Hold). IsBase z.0 sizes (length now.workers.items) z.1) (λ k. (sym pool k, sym pass k)) parts.base;
+        size = parts.size;
+        slots = all.slots;
+        each = λ i d l. subst (λ (p : List TableId). HasLeft p sizes settings.workers readies i (slice_index_or now.workers.items i d)) (sym pool) (parts.each i d l);
+        feeders = subst (λ (p : List TableId). AreFeedersOf p now.feeders.items) (sym pool) all.feeders;
+        fetched = λ source l.
+            subst (λ (p : List TableId). HasFetched p settings source (slice_index sizes source) (slot_at (states_of list counts at_hand before) source)
+            (slot_at (states_of list counts at_hand after) source) (feed_at now.feeders.items source)) (sym pool) (all.fetched source l);
+        endings = (ap (λ v. v.items) endings ∙ new.endings.0, subst (λ n. length readies ≤ n) (sym (ap vec_capacity endings)) new.endings.1);
+        uses = (ap (λ v. v.items) uses ∙ new.uses.0, subst (λ n. length sizes ≤ n) (sym (ap vec_capacity uses)) new.uses.1);
+      }
 
 module _ {S : Type 0} (list : S → Option (List Row)) (counts : S → Counts) (at_hand : S → ℕ) where
   -- what a run keeps of the sources

@@ -1,13 +1,14 @@
 -- What a worker has done so far.
 use Rattle.std.proofs.Common.{◌≡◌, ◌≢◌, ◌≤◌, ◌<◌, ◌==◌, ◌&&◌, ◌+◌, ◌%◌, inl, inr, ℕ, min, Bool, true, false, cond, Option, Some, None, List, [], ◌∷◌, ◌++◌, length, map, take, reverse, All, count_by, slice_index_or, refl, sym, ap, subst, ◌∙◌, arith, le_trans}
 use Rattle.std.specs.List.{AllZip}
+use Rattle.std.proofs.lemmas.Bool.Decides.{eqb_tells}
 use Rattle.std.proofs.lemmas.List.{length-take, map-append}
 use Rattle.std.proofs.lemmas.List.{take_more, take_all}
 use Rattle.std.proofs.lemmas.List.Elements.{Contains-append_left, Contains-append_right}
 use Rattle.std.proofs.lemmas.List.Sums.{sum_by_push}
 use Rattle.topk_theory.proofs.AgreementLists.{contains_here, member_of_all, all_from_members}
 use Rattle.turn_lock.specs.declared.facts.Tally.{Tally}
-use Rattle.source_state.specs.declared.entry.FailKind.TheVariants as kind
+use Rattle.source_api.specs.declared.source.FailKind.TheVariants as kind
 use Rattle.source_state.specs.declared.look.LookFault.{LookFault}
 use Rattle.source_state.specs.declared.look.LookFault.TheVariants as why
 use Rattle.source_state.specs.State.{last_count}
@@ -24,12 +25,13 @@ use Rattle.query_run.specs.Endings.{IsRight}
 use Rattle.query_run.specs.Inquiries.{source_of}
 use Rattle.query_run.specs.Advancing.{HasSourcesIn, IsSourceIn, KnowsMore, Advances}
 use Rattle.query_run.specs.Asking.{Wanted, grades_asked}
-use Rattle.query_run.specs.Ran.{Ran, shown_to}
+use Rattle.query_run.specs.Ran.{Ran, RanSome, shown_to}
 use Rattle.query_run.proofs.Stops.{knows_more}
 use Rattle.batch_run.specs.declared.work.Worker.{Worker}
 use Rattle.batch_run.specs.Shares.{share, share_from}
 use Rattle.batch_result.specs.Using.{is_fail, refuses_for, is_refused_for, IsWantedBy, IsNamedBy, all_grades_asked}
-use Rattle.batch_run.specs.Working.{KnowsAll, End, IsEndOf, DidOf, RanAll, RanOne, RanSo, HasWorked}
+use Rattle.batch_result.specs.Cut.{begun}
+use Rattle.batch_run.specs.Working.{KnowsAll, End, IsEndOf, StoodIf, DidOf, RanAll, RanOne, RanSo, HasBegun, HasWorked}
 use Rattle.batch_run.proofs.ShareLaws.{share_push, share_here, share_else}
 use Rattle.batch_run.proofs.Zips.{zip_push, zip_map}
 use Rattle.batch_result.proofs.Places.{stands_at}
@@ -80,18 +82,18 @@ failed_by_fault : (fault : LookFault) (shown : Tally) → (shown_fault fault sho
 failed_by_fault (why.Source fault) shown = refl
 failed_by_fault (why.Missing object) shown = refl
 failed_by_fault (why.AsksFull kept) shown = refl
-failed_by_fault why.Failed shown = refl
-failed_by_fault why.Garbled shown = refl
-failed_by_fault why.Memory shown = refl
+failed_by_fault (why.Call kind.Failed) shown = refl
+failed_by_fault (why.Call kind.Garbled) shown = refl
+failed_by_fault (why.Call kind.Memory) shown = refl
 
 garbled_by_fault : (fault : LookFault) (shown : Tally)
     → (shown_fault fault shown).garbled ≡ cond (is_fail kind.Garbled fault) (one_more shown.garbled) shown.garbled
 garbled_by_fault (why.Source fault) shown = refl
 garbled_by_fault (why.Missing object) shown = refl
 garbled_by_fault (why.AsksFull kept) shown = refl
-garbled_by_fault why.Failed shown = refl
-garbled_by_fault why.Garbled shown = refl
-garbled_by_fault why.Memory shown = refl
+garbled_by_fault (why.Call kind.Failed) shown = refl
+garbled_by_fault (why.Call kind.Garbled) shown = refl
+garbled_by_fault (why.Call kind.Memory) shown = refl
 
 at_source : (f : Tally → ℕ) (fault : LookFault) (shown : Tally) (is here : Bool) → f (shown_fault fault shown) ≡ cond is (one_more (f shown)) (f shown)
     → f (cond {A = Tally} here (shown_fault fault shown) shown) ≡ cond (is && here) (one_more (f shown)) (f shown)
@@ -168,6 +170,10 @@ end_on before after knows ready end h = record {
   since = knows_on h.then_held before after h.since knows;
 }
 
+-- a query that ended ran some way
+ran_ended : (ready : Ready) (before after : List Hold) (ended : Ended) → Ran ready before after ended → RanSome ready before after
+ran_ended ready before after ended ran = inr (ran.q, record { of = ran.of; served = ran.served; uses = ran.uses })
+
 -- after one query more, which ended, or for which memory was wanted
 pub ran_one : (ready : Ready) (before after : Worker) (pass : List Hold) (ended : Ended) → after.number ≡ before.number → after.pass ≡ pass
     → (after.short ≡ false → after.ended.items ≡ before.ended.items ++ ended ∷ []) → Advances ready.sources.items before.pass pass
@@ -175,14 +181,16 @@ pub ran_one : (ready : Ready) (before after : Worker) (pass : List Hold) (ended 
 ran_one ready before after pass ended number is kept advances ran right = record {
   number = number;
   knows = subst (KnowsAll before.pass) (sym is) (knows_advanced ready.sources.items before.pass pass advances);
+  some = subst (RanSome ready before.pass) (sym is) (ran_ended ready before.pass pass ended ran);
   ran = λ long. (ended, kept long, subst (λ holds. Ran ready before.pass holds ended) (sym is) ran, right);
 }
 
 pub ran_short : (ready : Ready) (before after : Worker) → after.number ≡ before.number → after.short ≡ true
-    → Advances ready.sources.items before.pass after.pass → RanOne ready before after
-ran_short ready before after number short advances = record {
+    → Advances ready.sources.items before.pass after.pass → RanSome ready before.pass after.pass → RanOne ready before after
+ran_short ready before after number short advances some = record {
   number = number;
   knows = knows_advanced ready.sources.items before.pass after.pass advances;
+  some = some;
   ran = λ long. absurd (cc);
 }
 
@@ -191,6 +199,7 @@ pub ran_nothing : (ready : Ready) (before after : Worker) → after.number ≡ b
 ran_nothing ready before after number same short = record {
   number = number;
   knows = subst (KnowsAll before.pass) (sym same) (knows_same before.pass);
+  some = inl same;
   ran = λ long. absurd (cc);
 }
 
@@ -207,19 +216,24 @@ share_to workers number place readies ready l is =
     ∙ (share_push workers number 0 (take place readies) ready
     ∙ ap (λ p. share workers number (take place readies) ++ share_from workers number p (ready ∷ [])) (let long = length-take place readies in omega (arith, long, l)))
 
+share_past : (workers number place : ℕ) (readies : List Ready) (ready : Ready) → place < length readies → ready ≡ slice_index_or readies place ready
+    → place % workers ≢ number → share workers number (take (place + 1) readies) ≡ share workers number (take place readies)
+share_past workers number place readies ready l is apart =
+    let nothing : share_from workers number place (ready ∷ []) ≡ [] = share_else workers number place ready [] apart in
+    share_to workers number place readies ready l is
+    ∙ (ap (λ r. share workers number (take place readies) ++ r) nothing ∙ no_more (share workers number (take place readies)))
+  where
+    no_more : (xs : List Ready) → xs ++ [] ≡ xs
+    no_more [] = refl
+    no_more (x ∷ xs) = ap (λ ys. x ∷ ys) (no_more xs)
+
 -- a place of another worker
 pub ran_past : (workers place : ℕ) (readies : List Ready) (ready : Ready) (worker : Worker) → place < length readies
     → ready ≡ slice_index_or readies place ready
     → place % workers ≢ worker.number → RanSo workers (take place readies) worker → RanSo workers (take (place + 1) readies) worker
 ran_past workers place readies ready worker l is apart h =
-    let nothing : share_from workers worker.number place (ready ∷ []) ≡ [] = share_else workers worker.number place ready [] apart in
-    let same : share workers worker.number (take (place + 1) readies) ≡ share workers worker.number (take place readies) =
-    share_to workers worker.number place readies ready l is ∙ (ap (λ r. share workers worker.number (take place readies) ++ r) nothing ∙ no_more (share workers worker.number (take place readies))) in
+    let same = share_past workers worker.number place readies ready l is apart in
     record { ends = h.ends; ran = subst (λ rs. RanAll rs worker h.ends) (sym same) h.ran; ended = h.ended }
-  where
-    no_more : (xs : List Ready) → xs ++ [] ≡ xs
-    no_more [] = refl
-    no_more (x ∷ xs) = ap (λ ys. x ∷ ys) (no_more xs)
 
 -- a place of its own
 pub ran_next : (workers place : ℕ) (readies : List Ready) (ready : Ready) (before after : Worker) → place < length readies
@@ -285,3 +299,103 @@ pub passed_by : (workers place : ℕ) (readies : List Ready) (worker : Worker) �
 passed_by workers place readies worker l apart h =
     let ready = stands_at readies place l in
     ran_past workers place readies ready.item worker l ready.is apart h
+
+-- ---- the queries that began
+begun_push : (stood : List (Option Inquiry)) (one : Option Inquiry) → begun (stood ++ one ∷ []) ≡ begun stood ++ begun (one ∷ [])
+begun_push [] one = refl
+begun_push (None ∷ stood) one = begun_push stood one
+begun_push (Some q ∷ stood) one = ap (λ qs. q ∷ qs) (begun_push stood one)
+
+no_query_more : (qs : List Inquiry) → qs ++ [] ≡ qs
+no_query_more [] = refl
+no_query_more (q ∷ qs) = ap (λ rs. q ∷ rs) (no_query_more qs)
+
+stood_on : (before after : List Hold) → KnowsAll before after → (ready : Ready) (one : Option Inquiry) → StoodIf before ready one → StoodIf after ready one
+stood_on before after knows ready None h = tt
+stood_on before after knows ready (Some q) h = record { of = h.of; then_held = h.then_held; served = h.served; since = knows_on h.then_held before after h.since knows }
+
+-- before any query
+pub begun_none : (workers : ℕ) (worker : Worker) → ((source : ℕ) → DidOf [] source (hold_at worker.pass source)) → HasBegun workers [] worker
+begun_none workers worker idle = record { stood = []; each = tt; did = idle }
+
+-- none of some queries began
+abbrev pub nones : List Ready → List (Option Inquiry)
+nones [] = []
+nones (ready ∷ readies) = None ∷ nones readies
+
+nones_stood : (holds : List Hold) (readies : List Ready) → AllZip (StoodIf holds) readies (nones readies)
+nones_stood holds [] = tt
+nones_stood holds (ready ∷ readies) = (tt, nones_stood holds readies)
+
+pub nones_begun : (readies : List Ready) → begun (nones readies) ≡ []
+nones_begun [] = refl
+nones_begun (ready ∷ readies) = nones_begun readies
+
+pub begun_idle : (workers : ℕ) (readies : List Ready) (worker : Worker) → ((source : ℕ) → DidOf [] source (hold_at worker.pass source))
+    → HasBegun workers readies worker
+begun_idle workers readies worker idle =
+    let mine = share workers worker.number readies in
+    record {
+      stood = nones mine;
+      each = nones_stood worker.pass mine;
+      did = λ source. subst (λ qs. DidOf qs source (hold_at worker.pass source)) (sym (nones_begun mine)) (idle source);
+    }
+
+-- the share grew by a query, which stood so
+begun_more : (workers place : ℕ) (readies : List Ready) (ready : Ready) (before after : Worker) (one : Option Inquiry) → place < length readies
+    → ready ≡ slice_index_or readies place ready
+    → place % workers ≡ before.number → after.number ≡ before.number → KnowsAll before.pass after.pass → (h : HasBegun workers (take place readies) before)
+    → StoodIf after.pass ready one → ((source : ℕ) → DidOf (begun h.stood ++ begun (one ∷ [])) source (hold_at after.pass source))
+    → HasBegun workers (take (place + 1) readies) after
+begun_more workers place readies ready before after one l is own number knows h stands did =
+    let here : share_from workers before.number place (ready ∷ []) ≡ ready ∷ [] = share_here workers before.number place ready [] own in
+    let shares : share workers after.number (take (place + 1) readies) ≡ share workers before.number (take place readies) ++ ready ∷ [] =
+    ap (λ n. share workers n (take (place + 1) readies)) number
+    ∙ (share_to workers before.number place readies ready l is ∙ ap (λ r. share workers before.number (take place readies) ++ r) here) in
+    record {
+      stood = h.stood ++ one ∷ [];
+      each = subst (λ rs. AllZip (StoodIf after.pass) rs (h.stood ++ one ∷ [])) (sym shares)
+          (zip_push (StoodIf after.pass) (share workers before.number (take place readies)) h.stood ready one
+          (zip_map (StoodIf before.pass) (StoodIf after.pass) (stood_on before.pass after.pass knows) (share workers before.number (take place readies)) h.stood h.each) stands);
+      did = λ source. subst (λ qs. DidOf qs source (hold_at after.pass source)) (sym (begun_push h.stood one)) (did source);
+    }
+
+pub begun_next : (workers place : ℕ) (readies : List Ready) (ready : Ready) (before after : Worker) → place < length readies
+    → ready ≡ slice_index_or readies place ready
+    → place % workers ≡ before.number → after.number ≡ before.number → KnowsAll before.pass after.pass → RanSome ready before.pass after.pass
+    → HasBegun workers (take place readies) before → HasBegun workers (take (place + 1) readies) after
+begun_next workers place readies ready before after l is own number knows (inl same) h =
+    begun_more workers place readies ready before after None l is own number knows h tt
+    (λ source. subst (λ qs. DidOf qs source (hold_at after.pass source)) (sym (no_query_more (begun h.stood)))
+    (subst (λ (holds : List Hold). DidOf (begun h.stood) source (hold_at holds source)) (sym same) (h.did source)))
+begun_next workers place readies ready before after l is own number knows (inr some) h =
+    begun_more workers place readies ready before after (Some some.0) l is own number knows h
+    (record { of = some.1.of; then_held = after.pass; served = some.1.served; since = knows_same after.pass })
+    (λ source. did_more (begun h.stood) some.0 source (hold_at before.pass source) (hold_at after.pass source) (h.did source) (knows.each source)
+    (some.1.uses.shown source) (some.1.uses.wanted source))
+
+-- a place whose query isn't run
+pub begun_skip : (workers place : ℕ) (readies : List Ready) (worker : Worker) → place < length readies → HasBegun workers (take place readies) worker
+    → HasBegun workers (take (place + 1) readies) worker
+begun_skip workers place readies worker l h =
+    let ready = stands_at readies place l in
+    elim (eqb_tells (place % workers) worker.number) [
+      | inl own ↦ begun_next workers place readies ready.item worker worker l ready.is own.1 refl (knows_same worker.pass) (inl refl) h
+      | inr apart ↦
+          let same = share_past workers worker.number place readies ready.item l ready.is apart.1 in
+          record { stood = h.stood; each = subst (λ rs. AllZip (StoodIf worker.pass) rs h.stood) (sym same) h.each; did = h.did }
+    ]
+
+-- once it has worked
+pub begun_worked : (workers place : ℕ) (readies : List Ready) (before after : Worker) → length readies ≤ place → after.number ≡ before.number
+    → after.pass ≡ before.pass → HasBegun workers (take place readies) before → HasBegun workers readies after
+begun_worked workers place readies before after all number pass h = record {
+  stood = h.stood;
+  each = subst (λ holds. AllZip (StoodIf holds) (share workers after.number readies) h.stood) (sym pass)
+      (subst (λ n. AllZip (StoodIf before.pass) (share workers n readies) h.stood) (sym number)
+      (subst (λ rs. AllZip (StoodIf before.pass) (share workers before.number rs) h.stood) (take_all place readies all) h.each));
+  did = subst (λ holds. (source : ℕ) → DidOf (begun h.stood) source (hold_at holds source)) (sym pass) h.did;
+}
+
+pub short_not : (short : Bool) → short ≡ true → short ≡ false → ⊥
+short_not short is not_so = let bad : true ≡ false = sym is ∙ not_so in cc

@@ -17,7 +17,7 @@ use Rattle.batch_result.specs.Using.{IsReplaced}
 use Rattle.limits.specs.declared.settings.Settings.{Settings}
 use Rattle.batch_run.specs.declared.work.Worker.{Worker}
 use Rattle.batch_run.specs.declared.hire.Crew.{Crew}
-use Rattle.batch_run.specs.Working.{HasWorked}
+use Rattle.batch_run.specs.Working.{HasBegun, HasWorked}
 use Rattle.batch_run.specs.Slots.{SlotState, slot_at}
 
 -- what a worker's pass holds of a source before it works: it did nothing yet, and waits for nothing
@@ -56,12 +56,13 @@ pub record IsNewCrew (counts : List ℕ) (queries workers : ℕ) (crew : Crew) :
   pub endings : (crew.endings.items ≡ []) × (queries ≤ vec_capacity crew.endings)
   pub uses : (crew.uses.items ≡ []) × (length counts ≤ vec_capacity crew.uses)
 
--- what a worker leaves: its pass has one part of each source, and where memory wasn't wanted its share of the queries ended
+-- what a worker leaves: its pass has one part of each source, it ran some of its share of the queries, and all of it where memory wasn't wanted
 pub record HasLeft (pool : List TableId) (counts : List ℕ) (workers : ℕ) (readies : List Ready) (number : ℕ) (worker : Worker) : Type 0 where
   pub own : IsPassOf pool worker.pass
   pub number_is : worker.number ≡ number
   pub name : (source : ℕ) → source < length counts → (hold_at worker.pass source).pass.1.name ≡ (source, slice_index counts source)
   pub parts : (source : ℕ) → source < length counts → (hold_at worker.pass source).pass.1.parts ≡ 1
+  pub began : HasBegun workers readies worker
   pub worked : worker.short ≡ false → HasWorked workers readies worker
 
 -- what a fetcher did of the source of a number, which has so many objects, between what stood in its slot before and what stands there now

@@ -1,6 +1,6 @@
 -- What the batch gives, once its crew has run.
-use Rattle.std.specs.Prelude.{◌≡◌, ◌<◌, ◌^◌, ℕ, false, List, length, map, reverse}
-use Rattle.std.specs.List.{slice_index_or, list_any}
+use Rattle.std.specs.Prelude.{◌≡◌, ◌<◌, ◌^◌, ℕ, List, length, map, reverse}
+use Rattle.std.specs.List.{slice_index_or}
 use Rattle.source_state.specs.State.{State}
 use Rattle.query_core.specs.declared.ready.Ready.{Ready}
 use Rattle.query_run.specs.declared.ended.Ended.{Ended}
@@ -38,10 +38,9 @@ slots_run settings counts readies before after = record {
   now = map (λ slot. slot.counts) after;
 }
 
--- a crew has run as many queries as are stated, and no worker wanted memory
+-- a crew has run as many queries as are stated
 pub record CanFinish (settings : Settings) (counts : List ℕ) (readies : List Ready) (before after : List SlotState) (queries : ℕ) (crew : Crew) : Type 0 where
   pub settings_are : AreSettings settings
   pub ran : HasRun settings counts readies before after crew
   pub many : length readies ≡ queries
   pub few : (queries < 2 ^ 32) × (length counts < 2 ^ 32)
-  pub enough : list_any (λ (worker : Worker). worker.short) crew.workers.items ≡ false

@@ -1,9 +1,9 @@
 -- What a worker does with its share of the queries.
-use Rattle.std.specs.Prelude.{◌≡◌, ◌≤◌, ◌<◌, ◌++◌, ◌∷◌, [], ℕ, min, false, List, All, Contains, length, map, reverse, count_by}
+use Rattle.std.specs.Prelude.{◌≡◌, ◌≤◌, ◌<◌, ◌++◌, ◌∷◌, [], ℕ, min, false, Option, List, All, Contains, IfSome, length, map, reverse, count_by}
 use Rattle.std.specs.List.{AllZip, slice_index_or}
 use Rattle.atomic_table.specs.Seated.{TableId}
 use Rattle.turn_lock.specs.Facts.{AtMost}
-use Rattle.source_state.specs.declared.entry.FailKind.TheVariants as kind
+use Rattle.source_api.specs.declared.source.FailKind.TheVariants as kind
 use Rattle.source_state.specs.State.{last_count}
 use Rattle.source_pool.specs.declared.hold.Hold.{Hold}
 use Rattle.source_pool.specs.Passes.{hold_at, IsPassOf}
@@ -19,11 +19,12 @@ use Rattle.query_run.specs.Endings.{EndsAs, IsRight}
 use Rattle.query_run.specs.Seen.{states_seen}
 use Rattle.query_run.specs.Advancing.{WaitsForNothing, HasSourcesIn, KnowsMore}
 use Rattle.query_run.specs.Failing.{LookRefused}
-use Rattle.query_run.specs.Ran.{Ran}
+use Rattle.query_run.specs.Ran.{Ran, RanSome}
 use Rattle.batch_run.specs.declared.work.Worker.{Worker}
 use Rattle.batch_run.specs.Shares.{share}
 use Rattle.batch_result.specs.Using.{is_refused_for, IsWantedBy, IsNamedBy, all_grades_asked}
 use Rattle.batch_result.specs.Batches.{IsSpared}
+use Rattle.batch_result.specs.Cut.{begun}
 
 -- a pass later on: of each source it knows at least as much
 pub record KnowsAll (before after : List Hold) : Type 0 where
@@ -47,6 +48,17 @@ pub record IsEndOf (holds : List Hold) (ready : Ready) (end : End) : Type 0 wher
   pub later : AtMost (hold_at first_held (source_needed end.0)).pass.1.tally end.0.waiting.noted
   pub why : LookRefused end.0 first_held then_held end.0.refusal
   pub since : KnowsAll then_held holds
+
+-- a ready query stood so, when it ended or was let go: what it read was drawn from what the pass knew then, and since then the pass came to know more at most
+pub record IsStood (holds : List Hold) (ready : Ready) (q : Inquiry) : Type 0 where
+  pub of : IsOf ready q
+  pub then_held : List Hold
+  pub served : IsServed (states_seen then_held) q
+  pub since : KnowsAll then_held holds
+
+-- a ready query stood so, if it began
+abbrev pub StoodIf : List Hold → Ready → Option Inquiry → Type 0
+StoodIf holds ready stood = IfSome stood (IsStood holds ready)
 
 -- what these queries did of a source through a pass: it was raised no further than they asked, no more asks were added than they asked
 -- for grades, each for an object that one of them named, and each of them that was refused for a fail was shown one, which the pass knows of
@@ -73,10 +85,11 @@ pub record IsAtWork (pool : List TableId) (workers : ℕ) (readies : List Ready)
   pub none : worker.ended.items ≡ []
   pub idle : (source : ℕ) → DidOf [] source (hold_at worker.pass source)
 
--- a worker after one more query: memory was wanted, or the query ended so
+-- a worker after one more query, which ran some way if it began: memory was wanted, or the query ended so
 pub record RanOne (ready : Ready) (before after : Worker) : Type 0 where
   pub number : after.number ≡ before.number
   pub knows : KnowsAll before.pass after.pass
+  pub some : RanSome ready before.pass after.pass
   pub ran : after.short ≡ false
       → (ended : Ended) × (after.ended.items ≡ before.ended.items ++ ended ∷ []) × Ran ready before.pass after.pass ended × IsRight ready ended
 
@@ -85,6 +98,12 @@ pub record RanSo (workers : ℕ) (readies : List Ready) (worker : Worker) : Type
   pub ends : List End
   pub ran : RanAll (share workers worker.number readies) worker ends
   pub ended : worker.ended.items ≡ map (λ end. end.1) ends
+
+-- a worker that ran some of its share of these queries: they stood so, and did this
+pub record HasBegun (workers : ℕ) (readies : List Ready) (worker : Worker) : Type 0 where
+  pub stood : List (Option Inquiry)
+  pub each : AllZip (StoodIf worker.pass) (share workers worker.number readies) stood
+  pub did : (source : ℕ) → DidOf (begun stood) source (hold_at worker.pass source)
 
 -- a worker once it has worked: memory was wanted, or the queries of its share ended so, the last one first
 pub record HasWorked (workers : ℕ) (readies : List Ready) (worker : Worker) : Type 0 where
@@ -96,6 +115,7 @@ pub record Worked (pool : List TableId) (workers : ℕ) (readies : List Ready) (
   pub number : after.number ≡ before.number
   pub own : IsPassOf pool after.pass
   pub knows : KnowsAll before.pass after.pass
+  pub began : HasBegun workers readies after
   pub worked : after.short ≡ false → HasWorked workers readies after
 
 -- all workers, at their places

@@ -1,12 +1,14 @@
 //! What a crew gives once it has run.
 
-ghost use Rattle.std.specs.Prelude.{◌≡◌, ◌≤◌, ◌<◌, [], ◌∷◌, ◌++◌, ℕ, List, length, map, vec_len, vec_capacity};
+ghost use Rattle.std.specs.Prelude.{◌≡◌, ◌≤◌, ◌<◌, [], ◌∷◌, ◌++◌, ℕ, true, false, not, List, length, map, IfOk, OnErr, vec_len, vec_capacity};
+ghost use Rattle.std.specs.List.{list_any};
 ghost use Rattle.source_state.specs.State.{state_at};
 ghost use Rattle.query_core.specs.declared.ready.Ready.{Ready};
 ghost use Rattle.query_run.specs.declared.ended.Ended.{Ended as EndedOf};
 ghost use Rattle.limits.specs.declared.settings.Settings.{Settings};
 ghost use Rattle.batch_run.specs.Slots.{SlotState, states_of, slot_at};
 ghost use Rattle.batch_result.specs.Batches.{IsBatch, use_at};
+ghost use Rattle.batch_result.specs.Cut.{IsCut};
 ghost use Rattle.batch_run.specs.Finishing.{slots_run, CanFinish, AreShares, UsedOf};
 
 use super::hire::Crew;
@@ -14,7 +16,7 @@ use super::joining::rejoin;
 use super::work::Worker;
 use batch_result::{Batch, Use};
 use fetcher::{Fetched, Slot};
-use query_run::Ended;
+use query_run::{Ended, Memory};
 use source_api::Source;
 use source_pool::{Feeders, States};
 
@@ -42,6 +44,31 @@ fn gather(workers: &mut Vec<Worker>, count: usize, endings: &mut Vec<Ended>)
         let ended = next_of(&mut workers[place % all]);
         endings.push_reserved(ended);
     }
+}
+
+/// Whether a worker wanted memory.
+fn is_short(workers: &Vec<Worker>) -> bool
+    ensures { result ≡ list_any (λ worker. worker.short) workers.now.items }
+{
+    workers.iter().any(|worker| worker.short)
+}
+
+/// Takes how the queries ended from the workers where none of them wanted memory. Whether that is so.
+fn gather_all(workers: &mut Vec<Worker>, count: usize, endings: &mut Vec<Ended>) -> bool
+    requires shares { list_any (λ worker. worker.short) workers.old.items ≡ false → (whole : List EndedOf) × (length whole ≡ count) × AreShares whole workers.old.items }
+    requires some { 0 < vec_len workers.old }
+    requires none { endings.old.items ≡ [] }
+    requires room { count ≤ vec_capacity endings.old }
+    ensures enough { result ≡ not (list_any (λ worker. worker.short) workers.old.items) }
+    ensures gathered { result ≡ true → (whole : List EndedOf) → length whole ≡ count → AreShares whole workers.old.items → endings.new.items ≡ whole }
+    ensures passes { map (λ worker. worker.pass) workers.new.items ≡ map (λ worker. worker.pass) workers.old.items }
+    ensures filled { result ≡ true → vec_len endings.new ≡ count }
+{
+    if is_short(workers) {
+        return false;
+    }
+    gather(workers, count, endings);
+    true
 }
 
 /// What was used of a source, by its closing state and by what its fetcher fetched.
@@ -72,13 +99,20 @@ fn use_all<S: Source>(states: &States, slots: &[Slot<S>], uses: &mut Vec<Use>)
     }
 }
 
-/// What the batch gives, once its crew has run and no worker wanted memory.
-pub(crate) fn finish<S: Source>(crew: Crew, slots: &[Slot<S>], queries: usize) -> Batch
+/// What the batch gives, once its crew has run; none where a worker wanted memory. The pool is closed in either case.
+pub(crate) fn finish<S: Source>(
+    crew: Crew,
+    slots: &[Slot<S>],
+    queries: usize,
+) -> Result<Batch, Memory>
     requires { (settings : Settings) × (counts : List ℕ) × (readies : List Ready) × (before : List SlotState)
         × CanFinish settings counts readies before (states_of S.list S.counts S.at_hand slots.now) queries crew }
-    ensures { (settings : Settings) (counts : List ℕ) (readies : List Ready) (before : List SlotState)
+    ensures batch { IfOk result (λ batch. (settings : Settings) (counts : List ℕ) (readies : List Ready) (before : List SlotState)
         → CanFinish settings counts readies before (states_of S.list S.counts S.at_hand slots.now) queries crew
-        → IsBatch (slots_run settings counts readies before (states_of S.list S.counts S.at_hand slots.now)) result }
+        → IsBatch (slots_run settings counts readies before (states_of S.list S.counts S.at_hand slots.now)) batch) }
+    ensures cut { OnErr result ((settings : Settings) (counts : List ℕ) (readies : List Ready) (before : List SlotState)
+        → CanFinish settings counts readies before (states_of S.list S.counts S.at_hand slots.now) queries crew
+        → IsCut (slots_run settings counts readies before (states_of S.list S.counts S.at_hand slots.now))) }
 {
     let Crew {
         pool,
@@ -88,10 +122,15 @@ pub(crate) fn finish<S: Source>(crew: Crew, slots: &[Slot<S>], queries: usize) -
         mut endings,
         mut uses,
     } = crew;
-    gather(&mut workers, queries, &mut endings);
+    let enough = gather_all(&mut workers, queries, &mut endings);
     rejoin(&pool, &mut pass, workers);
     let states = pool.close(pass, Feeders::from_vec(feeders));
     use_all(&states, slots, &mut uses);
     drop(states);
-    Batch::make(endings, uses)
+    if !enough {
+        drop(endings);
+        drop(uses);
+        return Err(Memory);
+    }
+    Ok(Batch::make(endings, uses))
 }

@@ -5,7 +5,6 @@
 //! that the pool can be closed. Each worker and each fetcher has a thread of its own; a source and its feeder stand in one slot meanwhile.
 #![tactic(auto)]
 
-mod crew;
 mod finish;
 mod hands;
 mod hire;

@@ -1,15 +1,18 @@
 //! The run of a batch.
 
-ghost use Rattle.std.specs.Prelude.{◌≡◌, ◌≤◌, ◌<◌, ◌^◌, None, All, map, length, IfOk};
+ghost use Rattle.std.specs.Prelude.{◌≡◌, ◌≤◌, ◌<◌, ◌^◌, None, All, map, length, IfOk, OnErr};
 ghost use Rattle.std.specs.List.{AllZip};
 ghost use Rattle.source_api.specs.Counting.{NoneFell};
 ghost use Rattle.query_run.specs.Made.{IsReadyFor};
 ghost use Rattle.query_run.specs.Endings.{IsRight};
 ghost use Rattle.limits.specs.Ranges.{AreSettings};
 ghost use Rattle.batch_result.specs.Batches.{run_of, IsBatch};
+ghost use Rattle.batch_result.specs.Cut.{IsCut};
 
 use super::finish::finish;
 use super::hire::Crew;
+use super::lending::{lend, take_back};
+use super::sides::run_sides;
 use batch_result::{Batch, Settings};
 use fetcher::Slot;
 use limits::MAX_OBJECTS;
@@ -25,7 +28,8 @@ use std::thread::Threads;
 /// from 0 leaves its own number as the remainder. What it needs of a source and no other thread fetches it fetches itself, so that no
 /// query needs another thread; the fetchers read ahead. A call may wait for ever.
 ///
-/// A batch comes only once all queries have ended. Where memory was wanted there is none.
+/// A batch comes only once all queries have ended. Where memory was wanted there is none; what the sources gave by then is within the same
+/// bounds, those of what the queries that had begun asked for, and nothing where none had.
 ///
 /// *Cost*: a pool, a pass for each worker, a lock of the slots, and room for the endings; then each query one `run_query_by`, each source
 /// the turns that its queries need and those that read ahead; at the end a join for each worker, `Pool::close`, and one pass over the endings.
@@ -48,14 +52,21 @@ pub fn run_all<W: Threads + Wait + Sync, S: Source>(
     ensures lists { map (λ slot. S.list slot.source) sources.new.items ≡ map (λ slot. S.list slot.source) sources.old.items }
     ensures versions { map (λ slot. S.at_hand slot.source) sources.new.items ≡ map (λ slot. S.at_hand slot.source) sources.old.items }
     ensures later { AllZip NoneFell (map (λ slot. S.counts slot.source) sources.old.items) (map (λ slot. S.counts slot.source) sources.new.items) }
+    ensures cut { OnErr result (IsCut (run_of S.list S.counts S.at_hand settings counts.now queries.now sources.old.items sources.new.items)) }
     ensures batch { IfOk result (IsBatch (run_of S.list S.counts S.at_hand settings counts.now queries.now sources.old.items sources.new.items)) }
     ensures right { IfOk result (λ batch. AllZip IsRight queries.now batch.endings) }
 {
     let mut crew = Crew::make(alloc, counts, queries.len(), settings.workers)?;
-    crew.run(rt, alloc, sources, queries, settings);
-    if crew.is_short() {
-        crew.let_go();
-        return Err(Memory);
-    }
-    Ok(finish(crew, sources, queries.len()))
+    lend(&mut crew.feeders, sources.as_mut_slice());
+    run_sides(
+        rt,
+        alloc,
+        &crew.pool,
+        &mut crew.workers,
+        sources,
+        queries,
+        settings,
+    );
+    take_back(sources.as_mut_slice(), &mut crew.feeders);
+    finish(crew, sources, queries.len())
 }

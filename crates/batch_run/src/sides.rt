@@ -4,15 +4,15 @@ ghost use Rattle.std.specs.Prelude.{◌≡◌, ◌≤◌, ◌<◌, ◌^◌, [], 
 ghost use Rattle.limits.specs.Ranges.{AreSettings};
 ghost use Rattle.keyed_lock.specs.Hold.{all_parts};
 ghost use Rattle.fetcher.specs.Metering.{nothing};
-ghost use Rattle.fetcher.specs.Posting.{ArePosts, AreServed, MayServe, share_of};
-ghost use Rattle.batch_run.specs.Working.{IsAtWork, Worked, AllWorked};
+ghost use Rattle.fetcher.specs.Posting.{ArePosts, AreServed, share_of};
+ghost use Rattle.batch_run.specs.Working.{IsAtWork, AllWorked};
 ghost use Rattle.batch_run.specs.Slots.{HasFeeder, AllFetch};
 ghost use Rattle.batch_run.specs.Handing.{AllHands, AreSpared};
 
 use super::hands::{Hand, Hands, hand_in, hand_out, join_all, make_room, split_all};
 use super::work::{Worker, work};
 use batch_result::Settings;
-use fetcher::{Posts, Slot, serve_loop, serve_or_wait};
+use fetcher::{Posts, Slot, serve_loop};
 use keyed_lock::Pass;
 use query_core::Ready;
 use source_api::Source;
@@ -47,38 +47,6 @@ fn fetch_all<W: Threads + Wait + Sync, S: Source>(
     );
 }
 
-/// A worker runs its share of the queries, and takes turns at the posts itself.
-fn work_by_posts<W: Wait, S: Source>(
-    rt: &W,
-    alloc: Global,
-    pool: &Pool,
-    posts: &Posts<S>,
-    hand: &mut Hand<S>,
-    queries: &[Ready],
-    workers: usize,
-)
-    requires posts { ArePosts posts.now pool.now }
-    requires share { hand.old.pass ≡ share_of posts.now.lock 1 }
-    requires work { IsAtWork pool.now workers queries.now hand.old.worker }
-    ensures worked { Worked pool.now workers queries.now hand.old.worker hand.new.worker }
-    ensures pass { hand.new.pass ≡ hand.old.pass }
-{
-    let serve = |source: u32, _told: u64, pass: &mut Pass<Slot<S>>|
-        requires { MayServe posts.now pool.now pass.now × (source < length pool.now) }
-        ensures { pass.exit.now ≡ pass.entry.now }
-    { serve_or_wait(rt, alloc, pool, posts, pass, source as usize) };
-    work(
-        rt,
-        alloc,
-        pool,
-        &mut hand.worker,
-        queries,
-        workers,
-        &serve,
-        &mut hand.pass,
-    );
-}
-
 /// The workers, each in a thread of its own. Once all have worked the sign is set.
 fn work_all<W: Threads + Wait + Sync, S: Source>(
     rt: &W,
@@ -101,14 +69,14 @@ fn work_all<W: Threads + Wait + Sync, S: Source>(
         threads,
         &|_, hand: &mut Hand<S>|
             requires { ArePosts posts.now pool.now × IsAtWork pool.now count queries.now hand.now.worker × (hand.now.pass ≡ share_of posts.now.lock 1) }
-        { work_by_posts(rt, alloc, pool, posts, hand, queries, count) },
+        { work(rt, alloc, pool, posts, hand, queries, count) },
     );
     posts.stop.set(pool);
     posts.wake_all();
 }
 
-/// Both sides at the same time. The fetchers end after the workers.
-fn run_both<W: Threads + Wait + Sync, S: Source>(
+/// Both sides at the same time, over the posts. The fetchers end after the workers.
+fn run_posts<W: Threads + Wait + Sync, S: Source>(
     rt: &W,
     alloc: Global,
     pool: &Pool,
@@ -138,38 +106,6 @@ fn run_both<W: Threads + Wait + Sync, S: Source>(
     );
 }
 
-/// Runs both sides over the posts, and takes the slots back.
-fn run_posts<W: Threads + Wait + Sync, S: Source>(
-    rt: &W,
-    alloc: Global,
-    pool: &Pool,
-    workers: &mut Vec<Worker>,
-    slots: &mut Vec<Slot<S>>,
-    queries: &[Ready],
-    posts: Posts<S>,
-    mut pass: Pass<Slot<S>>,
-    hands: &mut Hands<S>,
-)
-    requires posts { ArePosts posts pool.now }
-    requires pass { pass ≡ share_of posts.lock all_parts }
-    requires none { (hands.old.workers.items ≡ []) × (hands.old.fetchers.items ≡ []) × (slots.old.items ≡ []) }
-    requires hands_room { (vec_len workers.old ≤ vec_capacity hands.old.workers) × (length pool.now ≤ vec_capacity hands.old.fetchers) }
-    requires room { length pool.now ≤ vec_capacity slots.old }
-    requires workers { All (IsAtWork pool.now (length workers.old.items) queries.now) workers.old.items }
-    requires few { (length workers.old.items ≤ 32) × (length pool.now < 2 ^ 32) }
-    ensures worked { AllWorked pool.now (length workers.old.items) queries.now workers.old.items workers.new.items }
-    ensures served { AreServed S.list S.counts S.calls S.at_hand S.states posts.lock.key.pool.value posts.lock.key.page posts.lock.key.ahead
-        posts.lock.key.slots.value.items slots.new.items }
-{
-    let sources = posts.bells.len();
-    hand_out(&posts, &mut pass, workers, &mut hands.workers);
-    split_all(&posts, &mut pass, &mut hands.fetchers, sources);
-    run_both(rt, alloc, pool, &posts, hands, queries);
-    hand_in(&posts, &mut pass, &mut hands.workers, workers);
-    join_all(&posts, &mut pass, &mut hands.fetchers);
-    posts.close(pass, slots);
-}
-
 /// Tells all workers that memory was wanted.
 fn spare(workers: &mut [Worker])
     ensures { AreSpared workers.old workers.new }
@@ -180,7 +116,7 @@ fn spare(workers: &mut [Worker])
     }
 }
 
-/// Both sides at the same time. The fetchers end after the workers. What a worker needs of a source, and no other thread fetches, it fetches
+/// The posts are opened, and both sides run over them. What a worker needs of a source, and no other thread fetches, it fetches
 /// itself; the fetchers read ahead. Where memory is wanted no query runs, and each worker is short of it.
 pub fn run_sides<W: Threads + Wait + Sync, S: Source>(
     rt: &W,
@@ -205,9 +141,15 @@ pub fn run_sides<W: Threads + Wait + Sync, S: Source>(
         return;
     };
     match Posts::open(alloc, pool, slots, settings.page, settings.ahead) {
-        Some((posts, pass)) => run_posts(
-            rt, alloc, pool, workers, slots, queries, posts, pass, &mut hands,
-        ),
+        Some((posts, mut pass)) => {
+            let sources = posts.bells.len();
+            hand_out(&posts, &mut pass, workers, &mut hands.workers);
+            split_all(&posts, &mut pass, &mut hands.fetchers, sources);
+            run_posts(rt, alloc, pool, &posts, &mut hands, queries);
+            hand_in(&posts, &mut pass, &mut hands.workers, workers);
+            join_all(&posts, &mut pass, &mut hands.fetchers);
+            posts.close(pass, slots);
+        }
         None => spare(workers),
     }
 }

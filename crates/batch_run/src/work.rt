@@ -1,14 +1,19 @@
 //! What a worker does.
 
-ghost use Rattle.std.specs.Prelude.{◌≡◌, ◌≤◌, ◌<◌, ◌+◌, ◌∷◌, [], ◌++◌, false, All, length, take};
+ghost use Rattle.std.specs.Prelude.{◌≡◌, ◌<◌, length};
 ghost use Rattle.source_pool.specs.Passes.{IsPassOf};
+ghost use Rattle.fetcher.specs.Posting.{ArePosts, MayServe, share_of};
 ghost use Rattle.query_core.specs.Ready.{IsReady};
 ghost use Rattle.query_run.specs.Serving.{ServesAll};
 ghost use Rattle.query_run.specs.Advancing.{WaitsForNothing, HasSourcesIn};
-ghost use Rattle.batch_run.specs.Working.{KnowsAll, IsAtWork, RanOne, RanSo, Worked};
+ghost use Rattle.batch_run.specs.Working.{IsAtWork, RanOne, Worked};
 
+use super::hands::Hand;
+use fetcher::{Posts, Slot, serve_or_wait};
+use keyed_lock::Pass;
 use query_core::Ready;
 use query_run::{Ended, run_query_by};
+use source_api::Source;
 use source_pool::{Pool, PoolPass};
 use std::alloc::Global;
 use std::sync::Wait;
@@ -56,58 +61,33 @@ fn run_one<P, F: Fn(u32, u64, &mut P)>(
     }
 }
 
-/// Runs the query at a place, where it is of the worker's share and memory wasn't wanted.
-fn run_at<P, F: Fn(u32, u64, &mut P)>(
-    rt: &impl Wait,
+/// Runs, in their order, the queries whose place leaves the worker's number as the remainder when it is divided by the number of workers, and
+/// takes turns at the posts itself. Where memory is wanted it runs no more.
+pub(crate) fn work<W: Wait, S: Source>(
+    rt: &W,
     alloc: Global,
     pool: &Pool,
-    worker: &mut Worker,
-    queries: &[Ready],
-    place: usize,
-    workers: usize,
-    serve: &F,
-    by: &mut P,
-)
-    requires workers { 1 ≤ workers }
-    requires place { place < length queries.now }
-    requires ready { All IsReady queries.now }
-    requires own { IsPassOf pool.now worker.old.pass }
-    requires serves { ServesAll F.Fn serve.now (length pool.now) by.old }
-    requires rests { WaitsForNothing worker.old.pass }
-    requires sources { All (HasSourcesIn worker.old.pass) queries.now }
-    ensures served { by.new ≡ by.old }
-    ensures own { IsPassOf pool.now worker.new.pass }
-    ensures rests { WaitsForNothing worker.new.pass }
-    ensures number { worker.new.number ≡ worker.old.number }
-    ensures knows { KnowsAll worker.old.pass worker.new.pass }
-    ensures ran { worker.new.short ≡ false → (worker.old.short ≡ false)
-        × (RanSo workers (take place queries.now) worker.old → RanSo workers (take (place + 1) queries.now) worker.new) }
-{
-    if worker.short || place % workers != worker.number as usize {
-        return;
-    }
-    run_one(rt, alloc, pool, worker, &queries[place], serve, by);
-}
-
-/// Runs, in their order, the queries whose place leaves the worker's number as the remainder when it is divided by the number of workers.
-/// Where memory is wanted it runs no more.
-pub(crate) fn work<P, F: Fn(u32, u64, &mut P)>(
-    rt: &impl Wait,
-    alloc: Global,
-    pool: &Pool,
-    worker: &mut Worker,
+    posts: &Posts<S>,
+    hand: &mut Hand<S>,
     queries: &[Ready],
     workers: usize,
-    serve: &F,
-    by: &mut P,
 )
-    requires work { IsAtWork pool.now workers queries.now worker.old }
-    requires serves { ServesAll F.Fn serve.now (length pool.now) by.old }
-    ensures served { by.new ≡ by.old }
-    ensures worked { Worked pool.now workers queries.now worker.old worker.new }
+    requires posts { ArePosts posts.now pool.now }
+    requires share { hand.old.pass ≡ share_of posts.now.lock 1 }
+    requires work { IsAtWork pool.now workers queries.now hand.old.worker }
+    ensures worked { Worked pool.now workers queries.now hand.old.worker hand.new.worker }
+    ensures pass { hand.new.pass ≡ hand.old.pass }
 {
+    let serve = |source: u32, _told: u64, pass: &mut Pass<Slot<S>>|
+        requires { MayServe posts.now pool.now pass.now × (source < length pool.now) }
+        ensures { pass.exit.now ≡ pass.entry.now }
+    { serve_or_wait(rt, alloc, pool, posts, pass, source as usize) };
+    let Hand { worker, pass } = hand;
     for place in 0..queries.len() {
-        run_at(rt, alloc, pool, worker, queries, place, workers, serve, by);
+        if worker.short || place % workers != worker.number as usize {
+            continue;
+        }
+        run_one(rt, alloc, pool, worker, &queries[place], &serve, pass);
     }
     worker.ended.reverse();
 }

@@ -23,8 +23,8 @@ use Rattle.source_state.specs.declared.entry.Asked.TheVariants as became
 use Rattle.source_state.specs.declared.entry.Settling.{Settling}
 use Rattle.source_state.specs.declared.entry.Settling.TheVariants.{Bad, Missed}
 use Rattle.source_state.specs.declared.entry.SourceFault.{SourceFault}
-use Rattle.source_state.specs.declared.entry.FailKind.{FailKind}
-use Rattle.source_state.specs.declared.entry.FailKind.TheVariants as kind
+use Rattle.source_api.specs.declared.source.FailKind.{FailKind}
+use Rattle.source_api.specs.declared.source.FailKind.TheVariants as kind
 use Rattle.source_state.specs.declared.look.Waiting.{Waiting}
 use Rattle.source_state.specs.declared.look.Look.TheVariants as look
 use Rattle.source_state.specs.declared.look.LookFault.{LookFault}
@@ -131,9 +131,7 @@ had_stays : (s u : State) (n : Need) (noted : Tally) (fault : LookFault) → IsL
 had_stays s u n noted (why.Source fault) later h = fault_stays s u n fault later h
 had_stays s u n noted (why.Missing object) later h = missed_stays s u n object later h
 had_stays s u n noted (why.AsksFull kept) later h = full_stays s u n kept later h
-had_stays s u n noted why.Failed later h = failed_more kind.Failed noted s.tally u.tally later.goes.grows.tally h
-had_stays s u n noted why.Garbled later h = failed_more kind.Garbled noted s.tally u.tally later.goes.grows.tally h
-had_stays s u n noted why.Memory later h = failed_more kind.Memory noted s.tally u.tally later.goes.grows.tally h
+had_stays s u n noted (why.Call what) later h = failed_more what noted s.tally u.tally later.goes.grows.tally h
 
 -- a cause stays one
 pub cause_stays : (s u : State) (t : MachineState) (noted : Tally) (refused : Option Refusal) → IsLater s u → IsCause s t noted refused
@@ -298,6 +296,4 @@ pub refusal_cause : (n : Need) (s t : State) (waiting left : Waiting) (fault : L
 refusal_cause n s t waiting left (why.Source fault) h = fault_decided s n fault h.decides
 refusal_cause n s t waiting left (why.Missing object) h = missing_decided s n object h.decides
 refusal_cause n s t waiting left (why.AsksFull kept) h = full_looked s n kept h.full h.all
-refusal_cause n s t waiting left why.Failed h = told_failed waiting n s.tally kind.Failed h.tells
-refusal_cause n s t waiting left why.Garbled h = told_failed waiting n s.tally kind.Garbled h.tells
-refusal_cause n s t waiting left why.Memory h = told_failed waiting n s.tally kind.Memory h.tells
+refusal_cause n s t waiting left (why.Call what) h = told_failed waiting n s.tally what h.tells

@@ -9,8 +9,8 @@ use Rattle.turn_lock.specs.Facts.{AtMost, FactsGrow}
 use Rattle.turn_lock.proofs.Growth.{begins_same, at_most_same, grows_same}
 use Rattle.source_state.specs.declared.entry.LogEntry.TheVariants as entry
 use Rattle.source_state.specs.declared.entry.Settling.TheVariants as settling
-use Rattle.source_state.specs.declared.entry.FailKind.{FailKind}
-use Rattle.source_state.specs.declared.entry.FailKind.TheVariants as kind
+use Rattle.source_api.specs.declared.source.FailKind.{FailKind}
+use Rattle.source_api.specs.declared.source.FailKind.TheVariants as kind
 use Rattle.source_state.specs.declared.entry.SourceFault.{SourceFault}
 use Rattle.source_state.specs.declared.entry.SourceFault.TheVariants.{ShortList}
 use Rattle.source_state.specs.declared.entry.SourceFault.TheVariants as faulty
@@ -156,6 +156,4 @@ look_moved n s t waiting left look.NotYet sound history may looks =
 look_moved n s t waiting left (look.Fault (why.Source fault)) sound history may looks = moved_is s t s (moved_same s sound history) looks.ends.same
 look_moved n s t waiting left (look.Fault (why.Missing object)) sound history may looks = moved_is s t s (moved_same s sound history) looks.ends.same
 look_moved n s t waiting left (look.Fault (why.AsksFull kept)) sound history may looks = moved_is s t s (moved_same s sound history) looks.ends.same
-look_moved n s t waiting left (look.Fault why.Failed) sound history may looks = moved_is s t s (moved_same s sound history) looks.ends.same
-look_moved n s t waiting left (look.Fault why.Garbled) sound history may looks = moved_is s t s (moved_same s sound history) looks.ends.same
-look_moved n s t waiting left (look.Fault why.Memory) sound history may looks = moved_is s t s (moved_same s sound history) looks.ends.same
+look_moved n s t waiting left (look.Fault (why.Call what)) sound history may looks = moved_is s t s (moved_same s sound history) looks.ends.same

@@ -9,8 +9,7 @@ use Rattle.turn_lock.specs.declared.known.Known.{Known}
 use Rattle.turn_lock.specs.Facts.{IsFrontOf}
 use Rattle.turn_lock.proofs.Growth.{begins_on}
 use Rattle.source_state.specs.declared.entry.LogEntry.{LogEntry}
-use Rattle.source_state.specs.declared.entry.FailKind.{FailKind}
-use Rattle.source_state.specs.declared.entry.FailKind.TheVariants as kind
+use Rattle.source_api.specs.declared.source.FailKind.{FailKind}
 use Rattle.source_state.proofs.Lists.{none_not_some}
 use Rattle.source_state.specs.declared.look.Look.{Look}
 use Rattle.source_state.specs.declared.look.Look.TheVariants as look
@@ -100,6 +99,4 @@ pub refused_by : (n : Need) (before : Known LogEntry) (now after : Hold) (fault 
 refused_by n before now after (why.Source fault) turn said called = said.says
 refused_by n before now after (why.Missing object) turn said called = said.says
 refused_by n before now after (why.AsksFull kept) turn said called = record { undecided = said.undecided; full = said.full }
-refused_by n before now after why.Failed turn said called = fail_came n kind.Failed before now after (look.Fault why.Failed) turn said (called kind.Failed said.tells)
-refused_by n before now after why.Garbled turn said called = fail_came n kind.Garbled before now after (look.Fault why.Garbled) turn said (called kind.Garbled said.tells)
-refused_by n before now after why.Memory turn said called = fail_came n kind.Memory before now after (look.Fault why.Memory) turn said (called kind.Memory said.tells)
+refused_by n before now after (why.Call what) turn said called = fail_came n what before now after (look.Fault (why.Call what)) turn said (called what said.tells)

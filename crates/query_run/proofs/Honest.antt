@@ -252,9 +252,7 @@ may_refuse_look : (lists : List (List Row)) (states : List State) (q : Inquiry) 
 may_refuse_look lists states q list (why.Source fault) t had = no_fault (list_at lists (source_needed q)) (state_at states (source_needed q)) (needed q) fault t.is had
 may_refuse_look lists states q list (why.Missing object) t had = none_missed (list_at lists (source_needed q)) (state_at states (source_needed q)) (needed q) object t.is had
 may_refuse_look lists states q list (why.AsksFull kept) t had = none_full (list_at lists (source_needed q)) (state_at states (source_needed q)) (needed q) kept t.long t.sound t.is.asked t.of had
-may_refuse_look lists states q list why.Failed t had = tt
-may_refuse_look lists states q list why.Garbled t had = tt
-may_refuse_look lists states q list why.Memory t had = tt
+may_refuse_look lists states q list (why.Call what) t had = tt
 
 may_refuse : (lists : List (List Row)) (states : List State) (q : Inquiry) (refused : Option Refusal) → All IsSound states → IsServed states q
     → IsTrueFor lists states q → IsCause (state_at states (source_needed q)) (state_of q.machine) q.waiting.noted refused

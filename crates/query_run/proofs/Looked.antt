@@ -61,9 +61,7 @@ refuses_sight n s t waiting left (why.AsksFull kept) h = record {
   all = h.all;
   ends = ends_sight s t waiting left h.ends;
 }
-refuses_sight n s t waiting left why.Failed h = record { undecided = decided_sight s n ∙ h.undecided; tells = h.tells; ends = ends_sight s t waiting left h.ends }
-refuses_sight n s t waiting left why.Garbled h = record { undecided = decided_sight s n ∙ h.undecided; tells = h.tells; ends = ends_sight s t waiting left h.ends }
-refuses_sight n s t waiting left why.Memory h = record { undecided = decided_sight s n ∙ h.undecided; tells = h.tells; ends = ends_sight s t waiting left h.ends }
+refuses_sight n s t waiting left (why.Call what) h = record { undecided = decided_sight s n ∙ h.undecided; tells = h.tells; ends = ends_sight s t waiting left h.ends }
 
 -- after a look that left the state as it was, the pass sees what was found, and that is sound
 pub record Sees (n : Need) (before after : Hold) (t : State) : Type 0 where

@@ -331,9 +331,7 @@ pub fault_ends : (n : Need) (s u : State) (waiting left : Waiting) (fault : Look
 fault_ends n s u waiting left (why.Source fault) h = h.ends
 fault_ends n s u waiting left (why.Missing object) h = h.ends
 fault_ends n s u waiting left (why.AsksFull kept) h = h.ends
-fault_ends n s u waiting left why.Failed h = h.ends
-fault_ends n s u waiting left why.Garbled h = h.ends
-fault_ends n s u waiting left why.Memory h = h.ends
+fault_ends n s u waiting left (why.Call what) h = h.ends
 
 -- any answer
 pub went : (states : List State) (q r : Inquiry) (u : State) (answer : Look) → IsServed states q → is_done (needed q) ≡ false

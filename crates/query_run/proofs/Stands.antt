@@ -11,7 +11,7 @@ use Rattle.topk_theory.specs.Transcript.{Grows}
 use Rattle.topk_theory.proofs.Agreement.{drawn_more}
 use Rattle.machine_base.specs.Machine.{MachineState}
 use Rattle.machine_base.specs.declared.core_fault.CoreFault.{CoreFault}
-use Rattle.source_state.specs.declared.entry.FailKind.{FailKind}
+use Rattle.source_api.specs.declared.source.FailKind.{FailKind}
 use Rattle.source_state.specs.declared.look.Waiting.{Waiting}
 use Rattle.source_state.specs.declared.look.Look.{Look}
 use Rattle.source_state.specs.declared.look.Look.TheVariants as look
@@ -259,18 +259,14 @@ abbrev noted_of : LookFault → Tally → Tally → Tally
 noted_of (why.Source fault) noted known = known
 noted_of (why.Missing object) noted known = known
 noted_of (why.AsksFull kept) noted known = known
-noted_of why.Failed noted known = noted
-noted_of why.Garbled noted known = noted
-noted_of why.Memory noted known = noted
+noted_of (why.Call what) noted known = noted
 
 cause_noted : (s : State) (n : Need) (noted known : Tally) (fault : LookFault) → CanNotBeHad s n noted fault
     → CanNotBeHad s n (noted_of fault noted known) fault
 cause_noted s n noted known (why.Source fault) h = h
 cause_noted s n noted known (why.Missing object) h = h
 cause_noted s n noted known (why.AsksFull kept) h = h
-cause_noted s n noted known why.Failed h = h
-cause_noted s n noted known why.Garbled h = h
-cause_noted s n noted known why.Memory h = h
+cause_noted s n noted known (why.Call what) h = h
 
 told_waits : (waiting : Waiting) (n : Need) (now : Tally) (what : FailKind) → told waiting n now ≡ Some what → (m : Need) × (waiting.need ≡ Some m)
 told_waits waiting n now what e = elim (option_cases waiting.need) [
@@ -285,9 +281,7 @@ noted_since : (before now : List Hold) (q : Inquiry) (u : State) (left : Waiting
 noted_since before now q u left (why.Source fault) h refuses = at_most_same (hold_at before (source_needed q)).pass.1.tally
 noted_since before now q u left (why.Missing object) h refuses = at_most_same (hold_at before (source_needed q)).pass.1.tally
 noted_since before now q u left (why.AsksFull kept) h refuses = at_most_same (hold_at before (source_needed q)).pass.1.tally
-noted_since before now q u left why.Failed h refuses = let m = told_waits (hold_at now (source_needed q)).waiting (needed q) u.tally _ refuses.tells in (h.waits (source_needed q) m.0 m.1).noted
-noted_since before now q u left why.Garbled h refuses = let m = told_waits (hold_at now (source_needed q)).waiting (needed q) u.tally _ refuses.tells in (h.waits (source_needed q) m.0 m.1).noted
-noted_since before now q u left why.Memory h refuses = let m = told_waits (hold_at now (source_needed q)).waiting (needed q) u.tally _ refuses.tells in (h.waits (source_needed q) m.0 m.1).noted
+noted_since before now q u left (why.Call what) h refuses = let m = told_waits (hold_at now (source_needed q)).waiting (needed q) u.tally _ refuses.tells in (h.waits (source_needed q) m.0 m.1).noted
 
 -- a fail is shown at the source of its list
 fault_shown : (before now after : List Hold) (q r : Inquiry) (source : ℕ) (fault : LookFault) → IsOnItsWay before now q → OthersStay (source_needed q) now after

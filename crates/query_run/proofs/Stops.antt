@@ -1,5 +1,5 @@
 -- All looks of a query, from the first to the end.
-use Rattle.std.proofs.Common.{◌≡◌, ◌≤◌, ◌<◌, ◌||◌, inl, inr, ℕ, zero, suc, true, false, Option, Some, None, List, [], ◌∷◌, length, map, is_some, slice_index_or, All, Contains, refl, sym, ap, subst, ◌∙◌, arith, le_refl}
+use Rattle.std.proofs.Common.{◌≡◌, ◌≤◌, ◌<◌, ◌||◌, inl, inr, ℕ, zero, suc, true, false, Option, Some, None, Result, Ok, Err, OnErr, List, [], ◌∷◌, length, map, is_some, slice_index_or, All, Contains, refl, sym, ap, subst, ◌∙◌, arith, le_refl}
 use Rattle.std.specs.List.{slice_set}
 use Rattle.std.proofs.lemmas.List.{length-map}
 use Rattle.std.proofs.lemmas.Bool.Decides.{eqb_tells}
@@ -34,7 +34,7 @@ use Rattle.query_run.specs.declared.inquiry.Inquiry.{Inquiry}
 use Rattle.query_run.specs.Inquiries.{logs_of, told_to, needed, list_needed, source_needed, is_done, is_ended}
 use Rattle.query_run.specs.Causes.{LacksRoom, IsCause}
 use Rattle.query_run.specs.Endings.{EndsAs, IsRight}
-use Rattle.query_run.specs.Made.{IsFresh}
+use Rattle.query_run.specs.Made.{IsFresh, IsOf}
 use Rattle.query_run.specs.Turns.{RowTaken}
 use Rattle.query_run.proofs.Ending.{right}
 use Rattle.query_run.proofs.Serving.{open_parts, Went, went}
@@ -42,7 +42,7 @@ use Rattle.query_run.proofs.TurnOpening.{opened_sound}
 use Rattle.source_pool.specs.Seen.{state_seen}
 use Rattle.query_run.specs.Seen.{states_seen}
 use Rattle.query_run.specs.Advancing.{WaitsForNothing, IsSourceIn, HasSourcesIn, KnowsMore, Advances}
-use Rattle.query_run.specs.Ran.{Ran}
+use Rattle.query_run.specs.Ran.{Ran, RanSome}
 use Rattle.query_run.specs.Looking.{FeedsFrom, IsReading, LooksOnce, IsOnItsWay, with_waiting, HasStopped, Stands, HasLooked, wants_memory}
 use Rattle.query_run.proofs.SeenLaws.{state_is}
 use Rattle.query_run.proofs.AskingLaws.{row_meets, grade_meets}
@@ -367,24 +367,38 @@ ends_with last q (ended.Answered answer) h = record { unrefused = h.unrefused; d
 ends_with last q (ended.Core fault) h = h
 ends_with last q (ended.Look list fault) h = h
 
+of_looked : (before after : List Hold) (ready : Ready) (first q : Inquiry) (last : Waiting) → IsFresh ready first → HasLooked before after first q
+    → IsOf ready (with_waiting last q)
+of_looked before after ready first q last is looked = record {
+  is = is.is;
+  first = state_of first.machine;
+  begun = is.machine.begun;
+  goes = looked.goes;
+  method = looked.method ∙ is.machine.method;
+  sources = looked.sources ∙ is.sources;
+}
+
 pub ran : (before after : List Hold) (ready : Ready) (first q : Inquiry) (end : Ended) → IsFresh ready first → HasLooked before after first q
     → HasStopped before after q → wants_memory q.refusal ≡ false → EndsAs q end → Ran ready before after end
 ran before after ready first q end is looked stop spared ends = record {
   q = with_waiting stop.last q;
-  of = record {
-    is = is.is;
-    first = state_of first.machine;
-    begun = is.machine.begun;
-    goes = looked.goes;
-    method = looked.method ∙ is.machine.method;
-    sources = looked.sources ∙ is.sources;
-  };
+  of = of_looked before after ready first q stop.last is looked;
   ends = ends_with stop.last q end ends;
   spared = λ list e. let bad : true ≡ false = ap wants_memory (sym e) ∙ spared in cc;
   served = stop.served;
   uses = stop.uses;
   why = stop.why;
 }
+
+-- a query that has stopped ran some way, also where its call failed
+pub ran_some : (before after : List Hold) (ready : Ready) (first q : Inquiry) → IsFresh ready first → HasLooked before after first q
+    → HasStopped before after q → RanSome ready before after
+ran_some before after ready first q is looked stop =
+    inr (with_waiting stop.last q, record { of = of_looked before after ready first q stop.last is looked; served = stop.served; uses = stop.uses })
+
+pub failed_too : {A E P : Type 0} (r : Result A E) → P → OnErr r P
+failed_too (Ok x) p = tt
+failed_too (Err e) p = p
 
 pub ran_right : (ready : Ready) (before after : List Hold) (end : Ended) → Ran ready before after end → IsRight ready end
 ran_right ready before after end h = right (states_seen after) ready h.q end h.served h.of h.ends

@@ -306,6 +306,4 @@ true_looked list n s t waiting left look.NotYet h of looks =
 true_looked list n s t waiting left (look.Fault (why.Source fault)) h of looks = true_is list s t looks.ends.same h
 true_looked list n s t waiting left (look.Fault (why.Missing object)) h of looks = true_is list s t looks.ends.same h
 true_looked list n s t waiting left (look.Fault (why.AsksFull kept)) h of looks = true_is list s t looks.ends.same h
-true_looked list n s t waiting left (look.Fault why.Failed) h of looks = true_is list s t looks.ends.same h
-true_looked list n s t waiting left (look.Fault why.Garbled) h of looks = true_is list s t looks.ends.same h
-true_looked list n s t waiting left (look.Fault why.Memory) h of looks = true_is list s t looks.ends.same h
+true_looked list n s t waiting left (look.Fault (why.Call what)) h of looks = true_is list s t looks.ends.same h

@@ -7,8 +7,8 @@ use Rattle.turn_lock.specs.declared.facts.Tally.{Tally}
 use Rattle.machine_base.specs.Machine.{MachineState, HasRoomFor}
 use Rattle.machine_base.specs.declared.core_fault.CoreFault.{CoreFault}
 use Rattle.machine_base.specs.declared.core_fault.CoreFault.TheVariants.{Strangers, RoomFull}
-use Rattle.source_state.specs.declared.entry.FailKind.{FailKind}
-use Rattle.source_state.specs.declared.entry.FailKind.TheVariants as kind
+use Rattle.source_api.specs.declared.source.FailKind.{FailKind}
+use Rattle.source_api.specs.declared.source.FailKind.TheVariants as kind
 use Rattle.source_state.specs.declared.entry.SourceFault.{SourceFault}
 use Rattle.source_state.specs.declared.entry.Settling.TheVariants.{Bad, Missed}
 use Rattle.source_state.specs.declared.look.LookFault.{LookFault}
@@ -64,9 +64,7 @@ abbrev pub CanNotBeHad : State → Need → Tally → LookFault → Type 0
 CanNotBeHad s need noted (why.Source fault) = IsAtFault s need fault
 CanNotBeHad s need noted (why.Missing object) = IsMissed s need object
 CanNotBeHad s need noted (why.AsksFull kept) = AreAsksFull s need kept
-CanNotBeHad s need noted why.Failed = HasFailed kind.Failed noted s.tally
-CanNotBeHad s need noted why.Garbled = HasFailed kind.Garbled noted s.tally
-CanNotBeHad s need noted why.Memory = HasFailed kind.Memory noted s.tally
+CanNotBeHad s need noted (why.Call what) = HasFailed what noted s.tally
 
 -- the need is an access of this list
 abbrev pub IsOfList : ℕ → Need → Type 0

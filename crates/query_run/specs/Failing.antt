@@ -6,8 +6,7 @@ use Rattle.turn_lock.specs.declared.facts.Facts.{Facts}
 use Rattle.turn_lock.specs.declared.facts.Tally.{Tally}
 use Rattle.turn_lock.specs.declared.known.Known.{Known}
 use Rattle.source_state.specs.declared.entry.LogEntry.{LogEntry}
-use Rattle.source_state.specs.declared.entry.FailKind.{FailKind}
-use Rattle.source_state.specs.declared.entry.FailKind.TheVariants as kind
+use Rattle.source_api.specs.declared.source.FailKind.{FailKind}
 use Rattle.source_state.specs.declared.look.Look.TheVariants as look
 use Rattle.source_state.specs.declared.look.LookFault.{LookFault}
 use Rattle.source_state.specs.declared.look.LookFault.TheVariants as why
@@ -53,9 +52,7 @@ abbrev pub RefusedBy : LookFault → Need → Known LogEntry → Known LogEntry 
 RefusedBy (why.Source fault) need before after = said_in after.seen need ≡ Some (look.Fault (why.Source fault))
 RefusedBy (why.Missing object) need before after = said_in after.seen need ≡ Some (look.Fault (why.Missing object))
 RefusedBy (why.AsksFull kept) need before after = NoAskLeft need after
-RefusedBy why.Failed need before after = FailCame kind.Failed need before after
-RefusedBy why.Garbled need before after = FailCame kind.Garbled need before after
-RefusedBy why.Memory need before after = FailCame kind.Memory need before after
+RefusedBy (why.Call what) need before after = FailCame what need before after
 
 -- where a look refused the query, what it needed was refused so
 abbrev pub LookRefused : Inquiry → List Hold → List Hold → Option Refusal → Type 0

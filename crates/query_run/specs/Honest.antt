@@ -52,9 +52,7 @@ abbrev pub MayRefuse : List (List Row) → Inquiry → Option Refusal → Type 0
 MayRefuse D q None = Unit {0}
 MayRefuse D q (Some (Core (RoomFull room))) =
     (room < (state_of q.machine).log.count) × (room < length (sees_with (method_of q.machine) D (state_of q.machine)))
-MayRefuse D q (Some (Look list why.Failed)) = Unit {0}
-MayRefuse D q (Some (Look list why.Garbled)) = Unit {0}
-MayRefuse D q (Some (Look list why.Memory)) = Unit {0}
+MayRefuse D q (Some (Look list (why.Call what))) = Unit {0}
 MayRefuse _ _ _ = ⊥
 
 -- the lists of a query agree with its transcript, which is how its run on its own table begins, and it is refused for its room or for a

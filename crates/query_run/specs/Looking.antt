@@ -4,6 +4,7 @@ use Rattle.ranked_list.specs.declared.need.Need.{Need}
 use Rattle.turn_lock.specs.Facts.{IsFrontOf, AtMost}
 use Rattle.source_state.specs.declared.look.Look.{Look}
 use Rattle.source_state.specs.declared.look.LookFault.{LookFault}
+use Rattle.source_api.specs.declared.source.FailKind.TheVariants as kind
 use Rattle.source_state.specs.declared.look.LookFault.TheVariants as why
 use Rattle.source_state.specs.declared.look.Waiting.{Waiting}
 use Rattle.source_state.specs.State.{State, IsSound, state_at}
@@ -114,9 +115,9 @@ abbrev pub is_memory : LookFault → Bool
 is_memory (why.Source fault) = false
 is_memory (why.Missing object) = false
 is_memory (why.AsksFull kept) = false
-is_memory why.Failed = false
-is_memory why.Garbled = false
-is_memory why.Memory = true
+is_memory (why.Call kind.Failed) = false
+is_memory (why.Call kind.Garbled) = false
+is_memory (why.Call kind.Memory) = true
 
 abbrev pub wants_memory : Option Refusal → Bool
 wants_memory None = false

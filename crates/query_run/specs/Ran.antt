@@ -1,7 +1,8 @@
 -- How a query ends that ran over a pool.
-use Rattle.std.specs.Prelude.{◌≡◌, ◌≢◌, ◌==◌, ℕ, Option, Some, None, List, if◌then◌else◌}
+use Rattle.std.specs.Prelude.{◌≡◌, ◌≢◌, ◌==◌, ◌⊎◌, ℕ, Option, Some, None, List, if◌then◌else◌}
 use Rattle.turn_lock.specs.declared.facts.Tally.{Tally}
 use Rattle.turn_lock.specs.Facts.{AtMost}
+use Rattle.source_api.specs.declared.source.FailKind.TheVariants as kind
 use Rattle.source_state.specs.declared.look.LookFault.TheVariants as why
 use Rattle.source_pool.specs.declared.hold.Hold.{Hold}
 use Rattle.source_pool.specs.Passes.{hold_at}
@@ -40,7 +41,18 @@ pub record Ran (ready : Ready) (before after : List Hold) (end : Ended) : Type 0
   pub q : Inquiry
   pub of : IsOf ready q
   pub ends : EndsAs q end
-  pub spared : (list : ℕ) → q.refusal ≢ Some (Look list why.Memory)
+  pub spared : (list : ℕ) → q.refusal ≢ Some (Look list (why.Call kind.Memory))
   pub served : IsServed (states_seen after) q
   pub uses : Uses before after q
   pub why : LookRefused q before after q.refusal
+
+-- a query that is ready ran some way through a pass and stood so: its transcript is how its run begins on every table that agrees, and is drawn from
+-- the logs that the pass saw; of each source it wanted nothing but what it asked for
+pub record Stood (ready : Ready) (before after : List Hold) (q : Inquiry) : Type 0 where
+  pub of : IsOf ready q
+  pub served : IsServed (states_seen after) q
+  pub uses : Uses before after q
+
+-- a query that is ready ran some way through a pass, or not at all, so that the pass stays
+abbrev pub RanSome : Ready → List Hold → List Hold → Type 0
+RanSome ready before after = (after ≡ before) ⊎ ((q : Inquiry) × Stood ready before after q)

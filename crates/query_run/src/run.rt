@@ -1,12 +1,12 @@
 //! Running a query over a pool.
 
-ghost use Rattle.std.specs.Prelude.{◌≡◌, ◌<◌, true, false, None, IfOk, length};
+ghost use Rattle.std.specs.Prelude.{◌≡◌, ◌<◌, true, false, None, IfOk, OnErr, length};
 ghost use Rattle.source_pool.specs.Passes.{IsPassOf};
 ghost use Rattle.query_core.specs.Ready.{IsReady};
 ghost use Rattle.query_run.specs.Inquiries.{is_ended};
 ghost use Rattle.query_run.specs.Endings.{IsRight};
 ghost use Rattle.query_run.specs.Advancing.{WaitsForNothing, HasSourcesIn, Advances};
-ghost use Rattle.query_run.specs.Ran.{Ran};
+ghost use Rattle.query_run.specs.Ran.{Ran, RanSome};
 ghost use Rattle.query_run.specs.Serving.{MayServe, Leaves, ServesAll};
 ghost use Rattle.query_run.specs.Looking.{IsReading, LooksOnce, HasLooked, HasStopped, wants_memory};
 
@@ -14,6 +14,7 @@ use super::ended::{Ended, Refusal};
 use super::inquiry::{Inquiry, list_needed};
 use access_log::Memory;
 use query_core::Ready;
+use source_api::FailKind;
 use source_pool::{Pool, PoolPass};
 use source_state::{Look, LookFault};
 use std::alloc::Global;
@@ -91,16 +92,16 @@ fn wants_memory(refusal: Option<Refusal>) -> bool
     ensures { result ≡ wants_memory refusal }
 {
     match refusal {
-        Some(Refusal::Look { fault, .. }) => fault == LookFault::Memory,
+        Some(Refusal::Look { fault, .. }) => fault == LookFault::Call(FailKind::Memory),
         Some(Refusal::Core { .. }) | None => false,
     }
 }
 
 /// Runs a query over the sources of a pool, through a pass of it, and may wait. It looks for what the query's machine needs next until that
 /// is there or can't be had, and ends with the answer, or with why the query is refused. Where a call of a source wanted memory while the
-/// query waited for it, this wants memory too. What isn't there yet is served by a call of `serve`, of the source's number, how often
-/// its feeder had told before the look, and what this thread serves by; or the call waits until it was served. It may return for no reason: the
-/// query looks again.
+/// query waited for it, this wants memory too; no more was wanted of the sources then than the query had asked for. What isn't there yet is
+/// served by a call of `serve`, of the source's number, how often its feeder had told before the look, and what this thread serves by; or the
+/// call waits until it was served. It may return for no reason: the query looks again.
 ///
 /// *Cost*: for each access one `Pool::look` and the feeding of the machine, and a look more each time that it is woken.
 /// No memory from the making of the machine to its answer.
@@ -123,6 +124,7 @@ pub fn run_query_by<P, F: Fn(u32, u64, &mut P)>(
     ensures rests { WaitsForNothing pass.new }
     ensures advances { Advances ready.now.sources.items pass.old pass.new }
     ensures ran { IfOk result (Ran ready.now pass.old pass.new) }
+    ensures short { OnErr result (RanSome ready.now pass.old pass.new) }
     ensures right { IfOk result (IsRight ready.now) }
 {
     let mut query = Inquiry::make(alloc, ready)?;
@@ -150,6 +152,7 @@ pub fn run_query(
     ensures rests { WaitsForNothing pass.new }
     ensures advances { Advances ready.now.sources.items pass.old pass.new }
     ensures ran { IfOk result (Ran ready.now pass.old pass.new) }
+    ensures short { OnErr result (RanSome ready.now pass.old pass.new) }
     ensures right { IfOk result (IsRight ready.now) }
 {
     let sleep = |source: u32, told: u64, _: &mut ()|

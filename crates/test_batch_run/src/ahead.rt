@@ -4,7 +4,7 @@ use super::cases::{A, B};
 use super::gated_runs::Case;
 use super::waiting::{Call, Gate};
 use batch_run::Settings;
-use source_api::Trouble;
+use source_api::{FailKind, Trouble};
 use test_mem_source::{Held, Kind};
 use test_query_support::{Expected, FIRST, FIRST_ENDS, Figures};
 
@@ -20,7 +20,7 @@ pub static AHEAD: Case = Case {
                 source: 0,
                 until: 3,
                 patience: 1_000_000_000,
-                trouble: Trouble::Failed,
+                trouble: Trouble::Fail(FailKind::Failed),
             }),
         ),
     ],
@@ -52,7 +52,7 @@ pub static UNDER_WAY: Case = Case {
                 source: 0,
                 until: u64::MAX,
                 patience: 20_000_000,
-                trouble: Trouble::Failed,
+                trouble: Trouble::Fail(FailKind::Failed),
             }),
         ),
         (
@@ -62,7 +62,7 @@ pub static UNDER_WAY: Case = Case {
                 source: 0,
                 until: 2,
                 patience: 1_000_000_000,
-                trouble: Trouble::Failed,
+                trouble: Trouble::Fail(FailKind::Failed),
             }),
         ),
     ],

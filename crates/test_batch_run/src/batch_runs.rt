@@ -124,6 +124,7 @@ fn is_so(batch: &Batch, ends: &[Expected], used: &[Used]) -> bool {
 fn let_batch_go(batch: Batch) {
     let count = batch.len();
     let endings = batch.into_endings();
+    // Serves the prover alone: as many endings as the batch had are no more than a list may have.
     prove!(endings.len() == count as usize);
     let_endings_go(Endings::from_vec(endings));
 }

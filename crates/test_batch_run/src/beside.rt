@@ -4,7 +4,7 @@ use super::cases::{A, B};
 use super::gated_runs::{Case, GATE};
 use super::waiting::{Call, Gate};
 use batch_run::Settings;
-use source_api::Trouble;
+use source_api::{FailKind, Trouble};
 use test_mem_source::{Held, Kind};
 use test_query_support::{Expected, Figures};
 
@@ -46,7 +46,7 @@ pub static BOTH: Case = Case {
                 source: 1,
                 until: 1,
                 patience: 1_000_000_000,
-                trouble: Trouble::Failed,
+                trouble: Trouble::Fail(FailKind::Failed),
             }),
         ),
         (B, Some(GATE)),
@@ -72,7 +72,7 @@ pub static LATE: Case = Case {
                 source: 2,
                 until: 1,
                 patience: 1_000_000_000,
-                trouble: Trouble::Failed,
+                trouble: Trouble::Fail(FailKind::Failed),
             }),
         ),
         (B, None),

@@ -3,6 +3,7 @@
 use super::cases::{A, B, Case, PLAIN, ROWS_A, ROWS_B};
 use batch_run::Settings;
 use machine_base::CoreFault;
+use source_api::FailKind;
 use source_state::{LookFault, SourceFault};
 use test_mem_source::{Held, Kind};
 use test_query_support::{Asked, Expected, FIRST, FIRST_ENDS, Figures};
@@ -144,7 +145,10 @@ pub static CALLS: [Case; 2] = [
         asked: &[FIRST, FIRST],
         by_grades: &[],
         settings: PLAIN,
-        ends: &[Expected::Look(0, LookFault::Failed), FIRST_ENDS],
+        ends: &[
+            Expected::Look(0, LookFault::Call(FailKind::Failed)),
+            FIRST_ENDS,
+        ],
         used: &[(2, 2, 2, 2), (2, 1, 2, 1)],
     },
     Case {
@@ -160,7 +164,11 @@ pub static CALLS: [Case; 2] = [
         asked: &[FIRST, FIRST, FIRST],
         by_grades: &[],
         settings: PLAIN,
-        ends: &[Expected::Look(1, LookFault::Failed), FIRST_ENDS, FIRST_ENDS],
+        ends: &[
+            Expected::Look(1, LookFault::Call(FailKind::Failed)),
+            FIRST_ENDS,
+            FIRST_ENDS,
+        ],
         used: &[(2, 2, 2, 2), (2, 1, 2, 1)],
     },
 ];

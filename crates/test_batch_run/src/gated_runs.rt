@@ -6,7 +6,7 @@ use super::batch_runs::{Batching, Ran, Used, run_ends_so};
 use super::waiting::{Call, Gate, Gated};
 use batch_run::Settings;
 use fetcher::Slot;
-use source_api::Trouble;
+use source_api::{FailKind, Trouble};
 use std::alloc::Global;
 use std::sync::Wait;
 use std::sync::atomic::AtomicU64;
@@ -36,7 +36,7 @@ pub const GATE: Gate = Gate {
     source: 0,
     until: 1,
     patience: 1_000_000_000,
-    trouble: Trouble::Failed,
+    trouble: Trouble::Fail(FailKind::Failed),
 };
 
 /// No call made of any of three sources.

@@ -1,5 +1,6 @@
-//! Tests of batches with workers and fetchers that really run: rows that were worked out by hand, over lists that are a table and over
-//! sources whose rows, grades or calls are at fault.
+//! Tests of batches with workers and fetchers that really run.
+//!
+//! Their rows were worked out by hand, over lists that are a table and over sources whose rows, grades or calls are at fault.
 //!
 //! Some sources have calls that wait until calls of another source were made, which shows that the queries and the fetchers
 //! run at the same time.

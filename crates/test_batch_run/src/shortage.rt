@@ -5,7 +5,7 @@ use super::cases::{A, B};
 use super::gated_runs::Case;
 use super::waiting::{Call, Gate};
 use batch_run::Settings;
-use source_api::Trouble;
+use source_api::{FailKind, Trouble};
 use test_query_support::{FIRST, FIRST_ENDS};
 
 /// The first call for a page wants memory, at once.
@@ -18,7 +18,7 @@ pub static SHORT: Case = Case {
                 source: 0,
                 until: 1,
                 patience: 0,
-                trouble: Trouble::Memory,
+                trouble: Trouble::Fail(FailKind::Memory),
             }),
         ),
         (B, None),

@@ -6,7 +6,7 @@ ghost use Rattle.test_mem_source.specs.InMemory.{told_list, told_version};
 ghost use Rattle.source_api.specs.Told.{IsPage, IsGrade};
 
 use ranked_list::Row;
-use source_api::{Counts, Source, Trouble};
+use source_api::{Counts, FailKind, Source, Trouble};
 use std::alloc::Global;
 use std::sync::atomic::{AtomicU64, Ordering};
 use test_mem_source::MemSource;
@@ -92,9 +92,9 @@ fn page_of(
 {
     match trouble {
         None => rows.page(alloc, from, count),
-        Some(Trouble::Garbled) => Err(Trouble::Garbled),
-        Some(Trouble::Memory) => Err(Trouble::Memory),
-        Some(_) => Err(Trouble::Failed),
+        Some(Trouble::Fail(FailKind::Garbled)) => Err(Trouble::Fail(FailKind::Garbled)),
+        Some(Trouble::Fail(FailKind::Memory)) => Err(Trouble::Fail(FailKind::Memory)),
+        Some(_) => Err(Trouble::Fail(FailKind::Failed)),
     }
 }
 
@@ -114,9 +114,9 @@ fn grade_of(
 {
     match trouble {
         None => rows.grade(alloc, object),
-        Some(Trouble::Garbled) => Err(Trouble::Garbled),
-        Some(Trouble::Memory) => Err(Trouble::Memory),
-        Some(_) => Err(Trouble::Failed),
+        Some(Trouble::Fail(FailKind::Garbled)) => Err(Trouble::Fail(FailKind::Garbled)),
+        Some(Trouble::Fail(FailKind::Memory)) => Err(Trouble::Fail(FailKind::Memory)),
+        Some(_) => Err(Trouble::Fail(FailKind::Failed)),
     }
 }
 

@@ -1,71 +1,186 @@
-use Rattle.std.proofs.Common.{length, refl, sym, subst, ◌∙◌}
+use Rattle.std.proofs.Common.{All, is_some, true, length, refl, sym, subst, ◌≡◌, ◌∙◌, arith}
+use Rattle.std.proofs.lemmas.Result.{IfOk-weaker}
+use Rattle.query_run.proofs.Stops.{failed_too}
 use Rattle.batch_result.specs.Batches.{IsBatch}
+use Rattle.batch_result.specs.Cut.{IsCut}
 use Rattle.batch_run.specs.Slots.{states_of}
 use Rattle.batch_run.specs.Finishing.{slots_run, CanFinish}
-use Rattle.batch_run.proofs.RunLaws.{run_is, kept_lists, kept_versions, kept_counts, counts_same}
+use Rattle.batch_run.proofs.CrewLaws.{all_at_work}
+use Rattle.batch_run.proofs.SlotLaws.{all_fed, all_fresh, all_full, came_back, empty_slots, lent_slots, taken_slots}
+use Rattle.batch_run.proofs.RunLaws.{run_is, failed_so, has_run, kept_lists, kept_versions, kept_counts, counts_same}
+use Rattle.batch_run.proofs.UncalledLaws.{cut_uncalled}
 use Rattle.batch_run.proofs.run.run_all.Goals as goal
 
 pub returns-in_err-crew-clause-later : goal.returns-in_err-crew-clause-later
 returns-in_err-crew-clause-later g c = counts_same g.S.Source.list g.S.Source.counts g.S.Source.at_hand c.args.sources.now.items
 
-pub returns-then-is_short-clause-lists : goal.returns-then-is_short-clause-lists
-returns-then-is_short-clause-lists g c =
-    let ran = c.run.ensures.ran c.args.counts.now c.in_ok-crew.ensures c.requires.ready in
-    kept_lists g.S.Source.list g.S.Source.counts g.S.Source.at_hand c.args.settings c.args.counts.now c.args.queries.now c.args.sources.now.items c.run.new.slots.items _ ran
+pub returns-in_err-crew-clause-cut : goal.returns-in_err-crew-clause-cut
+returns-in_err-crew-clause-cut g c =
+    failed_too c.from_residual.result (cut_uncalled g.S.Source.list g.S.Source.counts g.S.Source.at_hand c.args.settings c.args.counts.now c.args.queries.now c.args.sources.now.items
+    ((g.met.S.Source g.world.𝓛 g.world.𝓜 g.world.𝓡 ((λ s x. x), (λ x. x), (λ x. x), λ x. x)).distinct) c.requires.sources c.requires.counts)
 
-pub returns-then-is_short-clause-versions : goal.returns-then-is_short-clause-versions
-returns-then-is_short-clause-versions g c =
-    let ran = c.run.ensures.ran c.args.counts.now c.in_ok-crew.ensures c.requires.ready in
-    kept_versions g.S.Source.list g.S.Source.counts g.S.Source.at_hand c.args.settings c.args.counts.now c.args.queries.now c.args.sources.now.items c.run.new.slots.items _ ran
+pub run_sides-requires-clause-workers : goal.run_sides-requires-clause-workers
+run_sides-requires-clause-workers g c κs within =
+    let new = c.in_ok-crew.ensures in
+    let crew = c.in_ok-crew.crew in
+    let size = new.size in
+    let one = c.requires.settings.some_workers in
+    all_at_work crew.pool c.args.counts.now crew.pass crew.workers.items c.args.queries.now (omega (arith, size, one)) new.hiring c.requires.ready
 
-pub returns-then-is_short-clause-later : goal.returns-then-is_short-clause-later
-returns-then-is_short-clause-later g c =
-    let ran = c.run.ensures.ran c.args.counts.now c.in_ok-crew.ensures c.requires.ready in
-    kept_counts g.S.Source.list g.S.Source.counts g.S.Source.at_hand c.args.settings c.args.counts.now c.args.queries.now c.args.sources.now.items c.run.new.slots.items _ ran
+pub run_sides-requires-clause-feeders : goal.run_sides-requires-clause-feeders
+run_sides-requires-clause-feeders g c κs within =
+    let new = c.in_ok-crew.ensures in
+    let crew = c.in_ok-crew.crew in
+    let feeders = new.feeders.size in
+    let size = new.hiring.base.size in
+    let many = c.requires.sources in
+    all_fed g.S.Source.list g.S.Source.counts g.S.Source.at_hand crew.pool crew.feeders.items c.args.sources.now.items (came_back c.args.sources.now.len c.args.sources.now.items c.lend.new.slots)
+    (omega (arith, feeders, size, many)) new.feeders
+    (lent_slots g.S.Source.list g.S.Source.counts g.S.Source.at_hand c.args.sources.now.len c.in_ok-crew.crew.feeders.items c.args.sources.now.items c.as_mut_slice.result.now c.lend.new.slots c.args.sources.now.ok.0
+    c.as_mut_slice.ensures.value c.lend.ensures.lent)
 
-pub finish-requires-after_bounds : goal.finish-requires-after_bounds
-finish-requires-after_bounds g c κs within =
-    let ran = c.run.ensures.ran c.args.counts.now c.in_ok-crew.ensures c.requires.ready in
-    let before = states_of g.S.Source.list g.S.Source.counts g.S.Source.at_hand c.args.sources.now.items in
-    let can : CanFinish c.args.settings c.args.counts.now c.args.queries.now before (states_of g.S.Source.list g.S.Source.counts g.S.Source.at_hand c.run.new.slots.items) (length c.args.queries.now) c.run.new.self =
-    record { settings_are = c.requires.settings; ran = ran; many = refl; few = (c.requires.few_queries, c.requires.few_sources); enough = sym c.is_short.ensures ∙ c.if-is_short.false } in
-    let lent = subst (λ slots. CanFinish c.args.settings c.args.counts.now c.args.queries.now before (states_of g.S.Source.list g.S.Source.counts g.S.Source.at_hand slots) (length c.args.queries.now) c.run.new.self)
-    (sym c.deref.ensures.value) can in
-    (c.args.settings, c.args.counts.now, c.args.queries.now, before, lent)
+pub run_sides-requires-clause-fresh : goal.run_sides-requires-clause-fresh
+run_sides-requires-clause-fresh g c κs within =
+    all_fresh g.S.Source.list g.S.Source.counts g.S.Source.at_hand c.in_ok-crew.crew.feeders.items c.args.sources.now.items (came_back c.args.sources.now.len c.args.sources.now.items c.lend.new.slots)
+    (lent_slots g.S.Source.list g.S.Source.counts g.S.Source.at_hand c.args.sources.now.len c.in_ok-crew.crew.feeders.items c.args.sources.now.items c.as_mut_slice.result.now c.lend.new.slots c.args.sources.now.ok.0
+    c.as_mut_slice.ensures.value c.lend.ensures.lent)
+
+pub run_sides-requires-clause-many : goal.run_sides-requires-clause-many
+run_sides-requires-clause-many g c κs within =
+    let new = c.in_ok-crew.ensures in
+    let size = new.hiring.base.size in
+    let many = c.requires.sources in
+    let given = (lent_slots g.S.Source.list g.S.Source.counts g.S.Source.at_hand c.args.sources.now.len c.in_ok-crew.crew.feeders.items c.args.sources.now.items c.as_mut_slice.result.now c.lend.new.slots c.args.sources.now.ok.0
+    c.as_mut_slice.ensures.value c.lend.ensures.lent) in
+    given.size ∙ (sym many ∙ sym size)
+
+pub take_back-requires-clause-full : goal.take_back-requires-clause-full
+take_back-requires-clause-full g c κs within =
+    subst (All (λ slot. is_some slot.feeder ≡ true)) (sym c.as_mut_slice-2.ensures.value)
+    (all_full g.S.Source.list g.S.Source.counts g.S.Source.at_hand c.in_ok-crew.crew.pool c.args.settings _ c.run_sides.new.slots.items c.run_sides.ensures.fetched)
+
+pub returns-clause-empty : goal.returns-clause-empty
+returns-clause-empty g c =
+    empty_slots g.S.Source.list g.S.Source.counts g.S.Source.at_hand c.run_sides.new.slots.len c.take_back.new.feeders.items c.run_sides.new.slots.items c.as_mut_slice-2.result.now c.take_back.new.slots c.run_sides.new.slots.ok.0
+    c.as_mut_slice-2.ensures.value c.take_back.ensures.back c.take_back.ensures.empty
 
 pub returns-clause-lists : goal.returns-clause-lists
 returns-clause-lists g c =
-    let ran = c.run.ensures.ran c.args.counts.now c.in_ok-crew.ensures c.requires.ready in
-    kept_lists g.S.Source.list g.S.Source.counts g.S.Source.at_hand c.args.settings c.args.counts.now c.args.queries.now c.args.sources.now.items c.run.new.slots.items _ ran
+    let ran = has_run g.S.Source.list g.S.Source.counts g.S.Source.at_hand c.args.settings c.args.counts.now c.args.queries.now c.in_ok-crew.crew (record c.in_ok-crew.crew { feeders = c.take_back.new.feeders; workers = c.run_sides.new.workers })
+    c.args.sources.now.items (came_back c.args.sources.now.len c.args.sources.now.items c.lend.new.slots) c.run_sides.new.slots.items (came_back c.run_sides.new.slots.len c.run_sides.new.slots.items c.take_back.new.slots)
+    c.in_ok-crew.ensures c.requires.sources
+    (lent_slots g.S.Source.list g.S.Source.counts g.S.Source.at_hand c.args.sources.now.len c.in_ok-crew.crew.feeders.items c.args.sources.now.items c.as_mut_slice.result.now c.lend.new.slots c.args.sources.now.ok.0
+    c.as_mut_slice.ensures.value c.lend.ensures.lent)
+    c.run_sides.ensures.fetched
+    (taken_slots g.S.Source.list g.S.Source.counts g.S.Source.at_hand c.run_sides.new.slots.len c.take_back.new.feeders.items c.run_sides.new.slots.items c.as_mut_slice-2.result.now c.take_back.new.slots c.run_sides.new.slots.ok.0
+    c.as_mut_slice-2.ensures.value c.take_back.ensures.back)
+    c.run_sides.ensures.worked refl refl refl refl in
+    kept_lists g.S.Source.list g.S.Source.counts g.S.Source.at_hand c.args.settings c.args.counts.now c.args.queries.now c.args.sources.now.items (came_back c.run_sides.new.slots.len c.run_sides.new.slots.items c.take_back.new.slots) _ ran
 
 pub returns-clause-versions : goal.returns-clause-versions
 returns-clause-versions g c =
-    let ran = c.run.ensures.ran c.args.counts.now c.in_ok-crew.ensures c.requires.ready in
-    kept_versions g.S.Source.list g.S.Source.counts g.S.Source.at_hand c.args.settings c.args.counts.now c.args.queries.now c.args.sources.now.items c.run.new.slots.items _ ran
+    let ran = has_run g.S.Source.list g.S.Source.counts g.S.Source.at_hand c.args.settings c.args.counts.now c.args.queries.now c.in_ok-crew.crew (record c.in_ok-crew.crew { feeders = c.take_back.new.feeders; workers = c.run_sides.new.workers })
+    c.args.sources.now.items (came_back c.args.sources.now.len c.args.sources.now.items c.lend.new.slots) c.run_sides.new.slots.items (came_back c.run_sides.new.slots.len c.run_sides.new.slots.items c.take_back.new.slots)
+    c.in_ok-crew.ensures c.requires.sources
+    (lent_slots g.S.Source.list g.S.Source.counts g.S.Source.at_hand c.args.sources.now.len c.in_ok-crew.crew.feeders.items c.args.sources.now.items c.as_mut_slice.result.now c.lend.new.slots c.args.sources.now.ok.0
+    c.as_mut_slice.ensures.value c.lend.ensures.lent)
+    c.run_sides.ensures.fetched
+    (taken_slots g.S.Source.list g.S.Source.counts g.S.Source.at_hand c.run_sides.new.slots.len c.take_back.new.feeders.items c.run_sides.new.slots.items c.as_mut_slice-2.result.now c.take_back.new.slots c.run_sides.new.slots.ok.0
+    c.as_mut_slice-2.ensures.value c.take_back.ensures.back)
+    c.run_sides.ensures.worked refl refl refl refl in
+    kept_versions g.S.Source.list g.S.Source.counts g.S.Source.at_hand c.args.settings c.args.counts.now c.args.queries.now c.args.sources.now.items (came_back c.run_sides.new.slots.len c.run_sides.new.slots.items c.take_back.new.slots) _ ran
 
 pub returns-clause-later : goal.returns-clause-later
 returns-clause-later g c =
-    let ran = c.run.ensures.ran c.args.counts.now c.in_ok-crew.ensures c.requires.ready in
-    kept_counts g.S.Source.list g.S.Source.counts g.S.Source.at_hand c.args.settings c.args.counts.now c.args.queries.now c.args.sources.now.items c.run.new.slots.items _ ran
+    let ran = has_run g.S.Source.list g.S.Source.counts g.S.Source.at_hand c.args.settings c.args.counts.now c.args.queries.now c.in_ok-crew.crew (record c.in_ok-crew.crew { feeders = c.take_back.new.feeders; workers = c.run_sides.new.workers })
+    c.args.sources.now.items (came_back c.args.sources.now.len c.args.sources.now.items c.lend.new.slots) c.run_sides.new.slots.items (came_back c.run_sides.new.slots.len c.run_sides.new.slots.items c.take_back.new.slots)
+    c.in_ok-crew.ensures c.requires.sources
+    (lent_slots g.S.Source.list g.S.Source.counts g.S.Source.at_hand c.args.sources.now.len c.in_ok-crew.crew.feeders.items c.args.sources.now.items c.as_mut_slice.result.now c.lend.new.slots c.args.sources.now.ok.0
+    c.as_mut_slice.ensures.value c.lend.ensures.lent)
+    c.run_sides.ensures.fetched
+    (taken_slots g.S.Source.list g.S.Source.counts g.S.Source.at_hand c.run_sides.new.slots.len c.take_back.new.feeders.items c.run_sides.new.slots.items c.as_mut_slice-2.result.now c.take_back.new.slots c.run_sides.new.slots.ok.0
+    c.as_mut_slice-2.ensures.value c.take_back.ensures.back)
+    c.run_sides.ensures.worked refl refl refl refl in
+    kept_counts g.S.Source.list g.S.Source.counts g.S.Source.at_hand c.args.settings c.args.counts.now c.args.queries.now c.args.sources.now.items (came_back c.run_sides.new.slots.len c.run_sides.new.slots.items c.take_back.new.slots) _ ran
+
+pub finish-requires-after_bounds : goal.finish-requires-after_bounds
+finish-requires-after_bounds g c κs within =
+    let ran = has_run g.S.Source.list g.S.Source.counts g.S.Source.at_hand c.args.settings c.args.counts.now c.args.queries.now c.in_ok-crew.crew (record c.in_ok-crew.crew { feeders = c.take_back.new.feeders; workers = c.run_sides.new.workers })
+    c.args.sources.now.items (came_back c.args.sources.now.len c.args.sources.now.items c.lend.new.slots) c.run_sides.new.slots.items (came_back c.run_sides.new.slots.len c.run_sides.new.slots.items c.take_back.new.slots)
+    c.in_ok-crew.ensures c.requires.sources
+    (lent_slots g.S.Source.list g.S.Source.counts g.S.Source.at_hand c.args.sources.now.len c.in_ok-crew.crew.feeders.items c.args.sources.now.items c.as_mut_slice.result.now c.lend.new.slots c.args.sources.now.ok.0
+    c.as_mut_slice.ensures.value c.lend.ensures.lent)
+    c.run_sides.ensures.fetched
+    (taken_slots g.S.Source.list g.S.Source.counts g.S.Source.at_hand c.run_sides.new.slots.len c.take_back.new.feeders.items c.run_sides.new.slots.items c.as_mut_slice-2.result.now c.take_back.new.slots c.run_sides.new.slots.ok.0
+    c.as_mut_slice-2.ensures.value c.take_back.ensures.back)
+    c.run_sides.ensures.worked refl refl refl refl in
+    let before = states_of g.S.Source.list g.S.Source.counts g.S.Source.at_hand c.args.sources.now.items in
+    let can : CanFinish c.args.settings c.args.counts.now c.args.queries.now before (states_of g.S.Source.list g.S.Source.counts g.S.Source.at_hand (came_back c.run_sides.new.slots.len c.run_sides.new.slots.items c.take_back.new.slots)) (length c.args.queries.now) (record c.in_ok-crew.crew { feeders = c.take_back.new.feeders; workers = c.run_sides.new.workers }) =
+    record { settings_are = c.requires.settings; ran = ran; many = refl; few = (c.requires.few_queries, c.requires.few_sources) } in
+    let lent = subst (λ slots. CanFinish c.args.settings c.args.counts.now c.args.queries.now before (states_of g.S.Source.list g.S.Source.counts g.S.Source.at_hand slots) (length c.args.queries.now) (record c.in_ok-crew.crew { feeders = c.take_back.new.feeders; workers = c.run_sides.new.workers }))
+    (sym c.deref.ensures.value) can in
+    (c.args.settings, c.args.counts.now, c.args.queries.now, before, lent)
+
+pub returns-clause-cut : goal.returns-clause-cut
+returns-clause-cut g c =
+    let ran = has_run g.S.Source.list g.S.Source.counts g.S.Source.at_hand c.args.settings c.args.counts.now c.args.queries.now c.in_ok-crew.crew (record c.in_ok-crew.crew { feeders = c.take_back.new.feeders; workers = c.run_sides.new.workers })
+    c.args.sources.now.items (came_back c.args.sources.now.len c.args.sources.now.items c.lend.new.slots) c.run_sides.new.slots.items (came_back c.run_sides.new.slots.len c.run_sides.new.slots.items c.take_back.new.slots)
+    c.in_ok-crew.ensures c.requires.sources
+    (lent_slots g.S.Source.list g.S.Source.counts g.S.Source.at_hand c.args.sources.now.len c.in_ok-crew.crew.feeders.items c.args.sources.now.items c.as_mut_slice.result.now c.lend.new.slots c.args.sources.now.ok.0
+    c.as_mut_slice.ensures.value c.lend.ensures.lent)
+    c.run_sides.ensures.fetched
+    (taken_slots g.S.Source.list g.S.Source.counts g.S.Source.at_hand c.run_sides.new.slots.len c.take_back.new.feeders.items c.run_sides.new.slots.items c.as_mut_slice-2.result.now c.take_back.new.slots c.run_sides.new.slots.ok.0
+    c.as_mut_slice-2.ensures.value c.take_back.ensures.back)
+    c.run_sides.ensures.worked refl refl refl refl in
+    let before = states_of g.S.Source.list g.S.Source.counts g.S.Source.at_hand c.args.sources.now.items in
+    let can : CanFinish c.args.settings c.args.counts.now c.args.queries.now before (states_of g.S.Source.list g.S.Source.counts g.S.Source.at_hand (came_back c.run_sides.new.slots.len c.run_sides.new.slots.items c.take_back.new.slots)) (length c.args.queries.now) (record c.in_ok-crew.crew { feeders = c.take_back.new.feeders; workers = c.run_sides.new.workers }) =
+    record { settings_are = c.requires.settings; ran = ran; many = refl; few = (c.requires.few_queries, c.requires.few_sources) } in
+    let lent = subst (λ slots. CanFinish c.args.settings c.args.counts.now c.args.queries.now before (states_of g.S.Source.list g.S.Source.counts g.S.Source.at_hand slots) (length c.args.queries.now) (record c.in_ok-crew.crew { feeders = c.take_back.new.feeders; workers = c.run_sides.new.workers }))
+    (sym c.deref.ensures.value) can in
+    failed_so c.finish.result
+    (λ h.
+    subst IsCut (sym (run_is g.S.Source.list g.S.Source.counts g.S.Source.at_hand c.args.settings c.args.counts.now c.args.queries.now c.args.sources.now.items (came_back c.run_sides.new.slots.len c.run_sides.new.slots.items c.take_back.new.slots)))
+    (subst (λ slots. IsCut (slots_run c.args.settings c.args.counts.now c.args.queries.now before (states_of g.S.Source.list g.S.Source.counts g.S.Source.at_hand slots))) c.deref.ensures.value
+    (h c.args.settings c.args.counts.now c.args.queries.now before lent)))
+    c.finish.ensures.cut
 
 pub returns-clause-batch : goal.returns-clause-batch
 returns-clause-batch g c =
-    let ran = c.run.ensures.ran c.args.counts.now c.in_ok-crew.ensures c.requires.ready in
+    let ran = has_run g.S.Source.list g.S.Source.counts g.S.Source.at_hand c.args.settings c.args.counts.now c.args.queries.now c.in_ok-crew.crew (record c.in_ok-crew.crew { feeders = c.take_back.new.feeders; workers = c.run_sides.new.workers })
+    c.args.sources.now.items (came_back c.args.sources.now.len c.args.sources.now.items c.lend.new.slots) c.run_sides.new.slots.items (came_back c.run_sides.new.slots.len c.run_sides.new.slots.items c.take_back.new.slots)
+    c.in_ok-crew.ensures c.requires.sources
+    (lent_slots g.S.Source.list g.S.Source.counts g.S.Source.at_hand c.args.sources.now.len c.in_ok-crew.crew.feeders.items c.args.sources.now.items c.as_mut_slice.result.now c.lend.new.slots c.args.sources.now.ok.0
+    c.as_mut_slice.ensures.value c.lend.ensures.lent)
+    c.run_sides.ensures.fetched
+    (taken_slots g.S.Source.list g.S.Source.counts g.S.Source.at_hand c.run_sides.new.slots.len c.take_back.new.feeders.items c.run_sides.new.slots.items c.as_mut_slice-2.result.now c.take_back.new.slots c.run_sides.new.slots.ok.0
+    c.as_mut_slice-2.ensures.value c.take_back.ensures.back)
+    c.run_sides.ensures.worked refl refl refl refl in
     let before = states_of g.S.Source.list g.S.Source.counts g.S.Source.at_hand c.args.sources.now.items in
-    let can : CanFinish c.args.settings c.args.counts.now c.args.queries.now before (states_of g.S.Source.list g.S.Source.counts g.S.Source.at_hand c.run.new.slots.items) (length c.args.queries.now) c.run.new.self =
-    record { settings_are = c.requires.settings; ran = ran; many = refl; few = (c.requires.few_queries, c.requires.few_sources); enough = sym c.is_short.ensures ∙ c.if-is_short.false } in
-    let lent = subst (λ slots. CanFinish c.args.settings c.args.counts.now c.args.queries.now before (states_of g.S.Source.list g.S.Source.counts g.S.Source.at_hand slots) (length c.args.queries.now) c.run.new.self)
+    let can : CanFinish c.args.settings c.args.counts.now c.args.queries.now before (states_of g.S.Source.list g.S.Source.counts g.S.Source.at_hand (came_back c.run_sides.new.slots.len c.run_sides.new.slots.items c.take_back.new.slots)) (length c.args.queries.now) (record c.in_ok-crew.crew { feeders = c.take_back.new.feeders; workers = c.run_sides.new.workers }) =
+    record { settings_are = c.requires.settings; ran = ran; many = refl; few = (c.requires.few_queries, c.requires.few_sources) } in
+    let lent = subst (λ slots. CanFinish c.args.settings c.args.counts.now c.args.queries.now before (states_of g.S.Source.list g.S.Source.counts g.S.Source.at_hand slots) (length c.args.queries.now) (record c.in_ok-crew.crew { feeders = c.take_back.new.feeders; workers = c.run_sides.new.workers }))
     (sym c.deref.ensures.value) can in
-    subst (λ r. IsBatch r c.finish.result) (sym (run_is g.S.Source.list g.S.Source.counts g.S.Source.at_hand c.args.settings c.args.counts.now c.args.queries.now c.args.sources.now.items c.run.new.slots.items))
-    (subst (λ slots. IsBatch (slots_run c.args.settings c.args.counts.now c.args.queries.now before (states_of g.S.Source.list g.S.Source.counts g.S.Source.at_hand slots)) c.finish.result) c.deref.ensures.value
-    (c.finish.ensures c.args.settings c.args.counts.now c.args.queries.now before lent))
+    IfOk-weaker c.finish.result _ _
+    (λ batch h.
+    subst (λ r. IsBatch r batch) (sym (run_is g.S.Source.list g.S.Source.counts g.S.Source.at_hand c.args.settings c.args.counts.now c.args.queries.now c.args.sources.now.items (came_back c.run_sides.new.slots.len c.run_sides.new.slots.items c.take_back.new.slots)))
+    (subst (λ slots. IsBatch (slots_run c.args.settings c.args.counts.now c.args.queries.now before (states_of g.S.Source.list g.S.Source.counts g.S.Source.at_hand slots)) batch) c.deref.ensures.value
+    (h c.args.settings c.args.counts.now c.args.queries.now before lent)))
+    c.finish.ensures.batch
 
 pub returns-clause-right : goal.returns-clause-right
 returns-clause-right g c =
-    let ran = c.run.ensures.ran c.args.counts.now c.in_ok-crew.ensures c.requires.ready in
+    let ran = has_run g.S.Source.list g.S.Source.counts g.S.Source.at_hand c.args.settings c.args.counts.now c.args.queries.now c.in_ok-crew.crew (record c.in_ok-crew.crew { feeders = c.take_back.new.feeders; workers = c.run_sides.new.workers })
+    c.args.sources.now.items (came_back c.args.sources.now.len c.args.sources.now.items c.lend.new.slots) c.run_sides.new.slots.items (came_back c.run_sides.new.slots.len c.run_sides.new.slots.items c.take_back.new.slots)
+    c.in_ok-crew.ensures c.requires.sources
+    (lent_slots g.S.Source.list g.S.Source.counts g.S.Source.at_hand c.args.sources.now.len c.in_ok-crew.crew.feeders.items c.args.sources.now.items c.as_mut_slice.result.now c.lend.new.slots c.args.sources.now.ok.0
+    c.as_mut_slice.ensures.value c.lend.ensures.lent)
+    c.run_sides.ensures.fetched
+    (taken_slots g.S.Source.list g.S.Source.counts g.S.Source.at_hand c.run_sides.new.slots.len c.take_back.new.feeders.items c.run_sides.new.slots.items c.as_mut_slice-2.result.now c.take_back.new.slots c.run_sides.new.slots.ok.0
+    c.as_mut_slice-2.ensures.value c.take_back.ensures.back)
+    c.run_sides.ensures.worked refl refl refl refl in
     let before = states_of g.S.Source.list g.S.Source.counts g.S.Source.at_hand c.args.sources.now.items in
-    let can : CanFinish c.args.settings c.args.counts.now c.args.queries.now before (states_of g.S.Source.list g.S.Source.counts g.S.Source.at_hand c.run.new.slots.items) (length c.args.queries.now) c.run.new.self =
-    record { settings_are = c.requires.settings; ran = ran; many = refl; few = (c.requires.few_queries, c.requires.few_sources); enough = sym c.is_short.ensures ∙ c.if-is_short.false } in
-    let lent = subst (λ slots. CanFinish c.args.settings c.args.counts.now c.args.queries.now before (states_of g.S.Source.list g.S.Source.counts g.S.Source.at_hand slots) (length c.args.queries.now) c.run.new.self)
+    let can : CanFinish c.args.settings c.args.counts.now c.args.queries.now before (states_of g.S.Source.list g.S.Source.counts g.S.Source.at_hand (came_back c.run_sides.new.slots.len c.run_sides.new.slots.items c.take_back.new.slots)) (length c.args.queries.now) (record c.in_ok-crew.crew { feeders = c.take_back.new.feeders; workers = c.run_sides.new.workers }) =
+    record { settings_are = c.requires.settings; ran = ran; many = refl; few = (c.requires.few_queries, c.requires.few_sources) } in
+    let lent = subst (λ slots. CanFinish c.args.settings c.args.counts.now c.args.queries.now before (states_of g.S.Source.list g.S.Source.counts g.S.Source.at_hand slots) (length c.args.queries.now) (record c.in_ok-crew.crew { feeders = c.take_back.new.feeders; workers = c.run_sides.new.workers }))
     (sym c.deref.ensures.value) can in
-    (c.finish.ensures c.args.settings c.args.counts.now c.args.queries.now before lent).right
+    IfOk-weaker c.finish.result _ _ (λ batch h. (h c.args.settings c.args.counts.now c.args.queries.now before lent).right) c.finish.ensures.batch

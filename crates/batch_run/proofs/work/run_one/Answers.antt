@@ -11,4 +11,4 @@ returns-in-Ok-clause-ran g c =
     (λ long. c.push_reserved.ensures.items ∙ ap (λ es. es ++ c.in-Ok.ended ∷ []) c.reserve.ensures.items) c.run_query_by.ensures.advances c.in-Ok.ensures.ran c.in-Ok.ensures.right
 
 pub returns-in-Err-clause-ran : goal.returns-in-Err-clause-ran
-returns-in-Err-clause-ran g c = ran_short c.args.ready.now c.args.worker.now _ refl refl c.run_query_by.ensures.advances
+returns-in-Err-clause-ran g c = ran_short c.args.ready.now c.args.worker.now _ refl refl c.run_query_by.ensures.advances c.in-Err.ensures.short
