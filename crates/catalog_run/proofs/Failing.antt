@@ -11,7 +11,7 @@ use Rattle.topk_theory.proofs.AgreementLists.{contains_nil, contains_here, conta
 use Rattle.topk_theory.proofs.Counts.{none_counted}
 use Rattle.source_api.specs.declared.counts.Counts.{Counts}
 use Rattle.source_api.specs.Counting.{added, raised}
-use Rattle.source_state.specs.declared.entry.FailKind.{FailKind}
+use Rattle.source_api.specs.declared.source.FailKind.{FailKind}
 use Rattle.source_state.specs.declared.look.LookFault.{LookFault}
 use Rattle.source_state.specs.State.{State, state_at}
 use Rattle.query_core.specs.Machines.{state_of}

@@ -11,6 +11,7 @@ use Rattle.catalog_open.specs.declared.admissions.Stage.{Stage}
 use Rattle.catalog_open.specs.declared.admissions.Stage.TheVariants.{Refused, Ready}
 use Rattle.catalog_open.specs.Admissions.{AreAdmitted}
 use Rattle.query_admission.specs.declared.line_outcome.LineOutcome.{LineOutcome}
+use Rattle.line_outcome.proofs.Refused.{refused_here}
 use Rattle.catalog_run.specs.Merging.{Fit, Merges}
 use Rattle.catalog_run.specs.Runs.{AreOutcomes, IsLineRun}
 

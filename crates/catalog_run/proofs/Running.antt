@@ -1,7 +1,8 @@
 -- What a batch gives the lines.
-use Rattle.std.proofs.Common.{◌≡◌, ℕ, List, All, length, map, Result, Ok, Err, IfOk, sym, ◌∙◌, subst}
+use Rattle.std.proofs.Common.{◌≡◌, ℕ, List, Option, All, length, map, Result, Ok, Err, IfOk, sym, ◌∙◌, subst}
 use Rattle.std.specs.List.{AllZip}
 use Rattle.std.proofs.lemmas.List.{length-map}
+use Rattle.ranked_list.specs.declared.row.Row.{Row}
 use Rattle.source_api.specs.declared.counts.Counts.{Counts}
 use Rattle.source_api.specs.Counting.{NoneFell}
 use Rattle.query_core.specs.declared.ready.Ready.{Ready as ReadyQuery}
@@ -20,12 +21,17 @@ use Rattle.line_outcome.specs.LineOutcomes.{CanBeWritten}
 use Rattle.catalog_run.specs.OpenSources.{batch_over}
 use Rattle.catalog_run.proofs.Outcomes.{outcomes_are, right_fit}
 use Rattle.catalog_run.proofs.Readies.{all_own}
+use Rattle.catalog_run.proofs.Whole.{sources_as}
 use Rattle.catalog_run.proofs.Writable.{can_be_written}
 
 -- the batch of these queries, in other words
-pub batch_of_readies : (settings : Settings) (s : Sources) (begun now : List Counts) (lent readies : List ReadyQuery) (batch : BatchState) → lent ≡ readies
-    → IsBatch (batch_over settings s begun now lent) batch → IsBatch (batch_over settings s begun now readies) batch
-batch_of_readies settings s begun now lent readies batch same ran = subst (λ rs. IsBatch (batch_over settings s begun now rs) batch) same ran
+pub batch_of_readies : (settings : Settings) (told : List (Option (List Row))) (held places sizes counts : List ℕ) (begun now : List Counts)
+    (lent readies : List ReadyQuery) (batch : BatchState) → sizes ≡ counts → lent ≡ readies
+    → IsBatch (batch_over settings (sources_as told held places sizes) begun now lent) batch
+    → IsBatch (batch_over settings (sources_as told held places counts) begun now readies) batch
+batch_of_readies settings told held places sizes counts begun now lent readies batch same_counts same ran =
+    subst (λ cs. IsBatch (batch_over settings (sources_as told held places cs) begun now readies) batch) same_counts
+    (subst (λ rs. IsBatch (batch_over settings (sources_as told held places sizes) begun now rs) batch) same ran)
 
 pub ran_over : (settings : Settings) (s : Sources) (begun now : List Counts) (view : View) (lines : List (List ℕ)) (stages : List Stage)
     (readies : List ReadyQuery) (batch : BatchState) (outcomes : List LineOutcome) → length begun ≡ length s.told → AllZip NoneFell begun now

@@ -132,7 +132,7 @@ run_moves lists versions catalog W before mid after openings s now many are back
     (are.used ++ used, moves_back (standing catalog s.places) are.used used before mid after are.moves back (λ place. back_standing catalog s.places now place many))
 
 -- the lists and the versions of the sources, in other words
-abbrev sources_as : List (Option (List Row)) → List ℕ → List ℕ → List ℕ → Sources
+abbrev pub sources_as : List (Option (List Row)) → List ℕ → List ℕ → List ℕ → Sources
 sources_as told held places counts = record { told = told; versions = held; places = places; counts = counts }
 
 pub opened_told : (lists : List ℕ → Option (List Row)) (versions : List ℕ → Option ℕ) (catalog : List Entry) (W : ℕ → Type 0) (before now : Counted)

@@ -1,5 +1,5 @@
 -- The outcomes of a run can be written.
-use Rattle.std.proofs.Common.{◌≡◌, ℕ, ◌+◌, ◌<◌, List, [], ◌∷◌, All, Contains, inl, inr, Some, sym, ◌∙◌, subst}
+use Rattle.std.proofs.Common.{ℕ, ◌+◌, List, [], ◌∷◌, All, Contains, inl, inr, Some, sym, subst}
 use Rattle.std.specs.List.{AllByRecursion}
 use Rattle.std.proofs.lemmas.List.Elements.{All-from_recursion}
 use Rattle.topk_theory.proofs.AgreementLists.{member_of_all, contains_here, contains_there}
@@ -11,6 +11,7 @@ use Rattle.query_run.specs.Kept.{IsServed}
 use Rattle.query_admission.specs.declared.line_outcome.LineOutcome.{LineOutcome}
 use Rattle.catalog_run.specs.Runs.{AreOutcomes, IsLineRun}
 use Rattle.line_outcome.specs.LineOutcomes.{CanBeWritten}
+use Rattle.line_outcome.proofs.Writable.{ended_written, line_refused_written}
 
 line_run : (view : View) (states : List State) (q : Inquiry) (number : ℕ) (bytes : List ℕ) (o : LineOutcome) → IsServed states q
     → IsLineRun view q number bytes o → CanBeWritten o

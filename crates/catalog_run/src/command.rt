@@ -1,31 +1,26 @@
 //! The command `run`: query lines over the lists of a catalog.
 
-ghost use Rattle.std.specs.Prelude.{◌≡◌, ◌≤◌, ℕ, List, All, IfOk, map};
+ghost use Rattle.std.specs.Prelude.{◌≡◌, ◌≤◌, ℕ, List, IfOk, map};
 ghost use Rattle.line_text.specs.Lines.{lines};
-ghost use Rattle.csv_records.specs.Records.{records_of};
-ghost use Rattle.catalog_text.specs.Catalog.{IsCatalog};
+ghost use Rattle.source_api.specs.declared.ledger.PlaceCounts.{PlaceCounts};
+ghost use Rattle.source_api.specs.Places.{HasTextCause};
 ghost use Rattle.limits.specs.Ranges.{AreSettings};
-ghost use Rattle.catalog_run.specs.Runs.{IsRun};
-ghost use Rattle.line_outcome.specs.LineOutcomes.{CanBeWritten};
-ghost use Rattle.catalog_run.specs.Taking.{TakesSources};
-ghost use Rattle.call_ends.specs.Calls.{Input, ReadWhole, output_as, shelf_as, outside_of, call_at, call_of};
+ghost use Rattle.call_ends.specs.Calls.{output_as, call_of};
 ghost use Rattle.call_ends.specs.Ends.{Says};
-ghost use Rattle.catalog_run.specs.RunEnds.{RunsOverCatalog, EndsRunning};
-ghost use Rattle.catalog_run.specs.Faults.{SaysFault};
-ghost use Rattle.catalog_run.specs.Running.{lines_run, catalog_refused_text};
+ghost use Rattle.catalog_run.specs.RunEnds.{EndsRunning};
+ghost use Rattle.catalog_run.specs.Faults.{SaysFault, text_status, read_status};
+ghost use Rattle.catalog_run.specs.Running.{catalog_refused_text};
 
 use super::line_outcomes::write_outcomes;
 use super::lines::run_lines;
 use super::merging::let_go;
-use batch_run::Settings;
 use call_ends::{Status, ended};
 use catalog_open::Memory;
 use catalog_text::{Catalog, CatalogFault, read_catalog};
 use command_words::RunOptions;
 use limits::MAX_INPUT;
 use line_text::first_line;
-use query_admission::LineOutcome;
-use source_api::{Shelf, Trouble};
+use source_api::{FailKind, Shelf, Trouble};
 use std::alloc::Global;
 use std::sync::Wait;
 use std::thread::Threads;
@@ -61,40 +56,58 @@ pub fn run<W: Threads + Wait + Sync, H: Shelf, R: Intake, K: Sink>(
     ensures ends { (words : List (List ℕ)) → EndsRunning options.now (call_of R.left R.faults K.held K.faults H.texts H.lists H.versions H.at words
         (input.old, out.old, shelf.old) (input.new, out.new, shelf.new)) result }
 {
-    match shelf.text(alloc, options.catalog.as_str()) {
-        Ok(text) => run_over(rt, alloc, text, options.settings, shelf, input, out),
-        Err(Trouble::Memory) => Status::Memory,
-        Err(Trouble::Failed) => Status::OpenFault,
-        Err(Trouble::Garbled) => Status::OpenFault,
-        Err(Trouble::Moved { .. }) => unreachable!(),
+    let text = match shelf.text(alloc, options.catalog.as_str()) {
+        Ok(text) => text,
+        Err(trouble) => return text_status(trouble),
+    };
+    let read = read_catalog(alloc, &text);
+    drop(text);
+    let catalog = match read {
+        Ok(catalog) => catalog,
+        Err(fault) => return refuse(out, fault),
+    };
+    let bytes = match read_text(alloc, input, MAX_INPUT) {
+        Ok(bytes) => bytes,
+        Err(error) => {
+            let_catalog_go(catalog);
+            return read_status(error);
+        }
+    };
+    let Ok(lines) = lines_of(alloc, &bytes) else {
+        let_catalog_go(catalog);
+        return Status::Memory;
+    };
+    let ran = run_lines(rt, alloc, shelf, &catalog, &lines, options.settings);
+    let_catalog_go(catalog);
+    let Ok(outcomes) = ran else {
+        return Status::Memory;
+    };
+    let status = write_outcomes(out, &outcomes);
+    let_go(outcomes);
+    status
+}
+
+/// How a run ends whose catalog's text a shelf failed to give, which it never does by a move.
+fn text_status(trouble: Trouble) -> Status
+    requires { (before : PlaceCounts) × (now : PlaceCounts) × HasTextCause before now trouble }
+    ensures { result ≡ text_status trouble }
+{
+    match trouble {
+        Trouble::Fail(FailKind::Memory) => Status::Memory,
+        Trouble::Fail(FailKind::Failed) => Status::OpenFault,
+        Trouble::Fail(FailKind::Garbled) => Status::OpenFault,
+        Trouble::Moved { .. } => unreachable!(),
     }
 }
 
-/// Answers the query lines of the input over the lists of a catalog, by the catalog's text.
-fn run_over<W: Threads + Wait + Sync, H: Shelf, R: Intake, K: Sink>(
-    rt: &W,
-    alloc: Global,
-    text: Vec<u8>,
-    settings: Settings,
-    shelf: &mut H,
-    input: &mut R,
-    out: &mut K,
-) -> Status
-    requires { AreSettings settings }
-    ensures reads { R.faults input.old ≤ R.faults input.new }
-    ensures writes { K.faults out.old ≤ K.faults out.new }
-    ensures ends { (words : List (List ℕ)) → RunsOverCatalog settings text.items (call_of R.left R.faults K.held K.faults H.texts H.lists H.versions H.at words
-        (input.old, out.old, shelf.old) (input.new, out.new, shelf.new)) result }
+/// How a run ends whose input couldn't be read to its end.
+fn read_status(error: ReadError) -> Status
+    ensures { result ≡ read_status error }
 {
-    let read = read_catalog(alloc, &text);
-    drop(text);
-    match read {
-        Ok(catalog) => {
-            let status = run_input(rt, alloc, &catalog, settings, shelf, input, out);
-            let_catalog_go(catalog);
-            status
-        }
-        Err(fault) => refuse(out, fault),
+    match error {
+        ReadError::Failed => Status::ReadFault,
+        ReadError::Long => Status::LongInput,
+        ReadError::Memory => Status::Memory,
     }
 }
 
@@ -128,77 +141,6 @@ fn refuse_catalog<K: Sink>(out: &mut K, fault: &[u8], record_number: u64) -> Sta
     writer.put(b"\n");
     let written = writer.end();
     ended(written, Status::BadCatalog)
-}
-
-/// Answers the query lines of the input over the lists of a catalog.
-fn run_input<W: Threads + Wait + Sync, H: Shelf, R: Intake, K: Sink>(
-    rt: &W,
-    alloc: Global,
-    catalog: &Catalog,
-    settings: Settings,
-    shelf: &mut H,
-    input: &mut R,
-    out: &mut K,
-) -> Status
-    requires { AreSettings settings }
-    ensures reads { R.faults input.old ≤ R.faults input.new }
-    ensures writes { K.faults out.old ≤ K.faults out.new }
-    ensures ends { (words : List (List ℕ)) (text : List ℕ) → IsCatalog (records_of text) catalog.now
-        → RunsOverCatalog settings text (call_of R.left R.faults K.held K.faults H.texts H.lists H.versions H.at words
-        (input.old, out.old, shelf.old) (input.new, out.new, shelf.new)) result }
-{
-    match read_text(alloc, input, MAX_INPUT) {
-        Ok(text) => reply_to(rt, alloc, catalog, settings, shelf, &text, out),
-        Err(ReadError::Failed) => Status::ReadFault,
-        Err(ReadError::Long) => Status::LongInput,
-        Err(ReadError::Memory) => Status::Memory,
-    }
-}
-
-/// Runs the lines of an input that was read to its end, and writes what became of each.
-fn reply_to<W: Threads + Wait + Sync, H: Shelf, K: Sink>(
-    rt: &W,
-    alloc: Global,
-    catalog: &Catalog,
-    settings: Settings,
-    shelf: &mut H,
-    bytes: &[u8],
-    out: &mut K,
-) -> Status
-    requires { AreSettings settings }
-    ensures writes { K.faults out.old ≤ K.faults out.new }
-    ensures ends { (words : List (List ℕ)) (text : List ℕ) (before after : Input) → IsCatalog (records_of text) catalog.now
-        → let call = call_at words (outside_of before (output_as K.held K.faults out.old) (shelf_as H.texts H.lists H.versions H.at shelf.old))
-        (outside_of after (output_as K.held K.faults out.new) (shelf_as H.texts H.lists H.versions H.at shelf.new)) in
-        ReadWhole call bytes.now → RunsOverCatalog settings text call result }
-{
-    match run_text(rt, alloc, catalog, settings, shelf, bytes) {
-        Ok(outcomes) => {
-            let status = write_outcomes(out, &outcomes);
-            let_go(outcomes);
-            status
-        }
-        Err(_) => Status::Memory,
-    }
-}
-
-/// The outcomes of the lines of a text.
-fn run_text<W: Threads + Wait + Sync, H: Shelf>(
-    rt: &W,
-    alloc: Global,
-    catalog: &Catalog,
-    settings: Settings,
-    shelf: &mut H,
-    text: &[u8],
-) -> Result<Vec<LineOutcome>, Memory>
-    requires { AreSettings settings }
-    ensures takes { TakesSources catalog.now (lines text.now) (shelf_as H.texts H.lists H.versions H.at shelf.old) (shelf_as H.texts H.lists H.versions H.at shelf.new) }
-    ensures run { IfOk result (λ outcomes. IsRun (lines_run settings catalog.now (lines text.now)
-        (shelf_as H.texts H.lists H.versions H.at shelf.old) (shelf_as H.texts H.lists H.versions H.at shelf.new)) outcomes.items) }
-    ensures writable { IfOk result (λ outcomes. All CanBeWritten outcomes.items) }
-{
-    let lines = lines_of(alloc, text)?;
-    run_lines(rt, alloc, shelf, catalog, &lines, settings)
 }
 
 /// The lines of a text.

@@ -4,14 +4,11 @@
 //! are put back. A line's outcome is what it came to before it ran, or how its query ended.
 #![tactic(auto)]
 
-mod admitted;
-mod batch;
 mod command;
 mod line_outcomes;
 mod lines;
 mod merging;
 
-pub use batch::run_queries;
 pub use batch_run::Settings;
 pub use catalog_open::Memory;
 pub use command::{refuse, run};

@@ -14,8 +14,8 @@ ghost use Rattle.catalog_run.specs.Runs.{AsksWantedAtMostOnce, AsksWantedOnce, I
 ghost use Rattle.line_outcome.specs.LineOutcomes.{CanBeWritten};
 
 use super::Memory;
-use super::admitted::run_admitted;
-use batch_run::Settings;
+use super::merging::{let_admissions_go, merge};
+use batch_run::{Settings, run_all};
 use catalog_open::{
     Catalogued, Opened, admit_all, let_lines_go, mark_wanted, open_wanted, put_back_all, read_lines,
 };
@@ -158,6 +158,7 @@ fn run_opened<W: Threads + Wait + Sync, S: Source>(
         lines outcomes.items) }
     ensures writable { IfOk result (λ outcomes. All CanBeWritten outcomes.items) }
 {
+    // Serves the prover alone: there are no more sources than entries of a catalog, so that their number is small.
     prove!(slots.len() <= catalog.len() as usize);
     let lists = Catalogued {
         catalog,
@@ -166,5 +167,16 @@ fn run_opened<W: Threads + Wait + Sync, S: Source>(
     let Ok(admissions) = admit_all(alloc, &lists, read) else {
         return Err(Memory);
     };
-    run_admitted(rt, alloc, &opened.counts, slots, admissions, settings)
+    let Ok(batch) = run_all(
+        rt,
+        alloc,
+        slots,
+        &opened.counts,
+        &admissions.readies,
+        settings,
+    ) else {
+        let_admissions_go(admissions);
+        return Err(Memory);
+    };
+    merge(alloc, admissions, batch.into_endings())
 }

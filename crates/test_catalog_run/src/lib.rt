@@ -1,5 +1,7 @@
-//! Tests of query lines over catalogs: each refusal of admission in its order, rows over sources in memory that were worked out by hand, and made
-//! queries over made tables, by the list files that `make` writes, which come to what `bulk` comes to.
+//! Tests of query lines over catalogs.
+//!
+//! They have each refusal of admission in its order, rows over sources in memory that were worked out by hand, and made queries over made tables,
+//! by the list files that `make` writes, which come to what `bulk` comes to.
 #![tactic(auto)]
 
 #[cfg(test)]

@@ -12,8 +12,8 @@ use Rattle.topk_theory.specs.Transcript.{list_at}
 use Rattle.topk_theory.proofs.AgreementLists.{contains_here, contains_there, member_of_all}
 use Rattle.machine_base.specs.declared.core_fault.CoreFault.TheVariants as core
 use Rattle.source_api.specs.Counting.{NoneFell}
-use Rattle.source_state.specs.declared.entry.FailKind.{FailKind}
-use Rattle.source_state.specs.declared.entry.FailKind.TheVariants as kind
+use Rattle.source_api.specs.declared.source.FailKind.{FailKind}
+use Rattle.source_api.specs.declared.source.FailKind.TheVariants as kind
 use Rattle.source_state.specs.declared.entry.SourceFault.TheVariants as fault
 use Rattle.source_state.specs.declared.look.LookFault.{LookFault}
 use Rattle.source_state.specs.declared.look.LookFault.TheVariants as why
@@ -90,30 +90,30 @@ module _ (r : CatalogRun) (outcomes : List LineOutcome) (run : IsRun r outcomes)
   still_many = sym (length_all_zip NoneFell run.begun run.now run.ran.later) ∙ run.ran.many ∙ run.opened.many_told
 
   -- it is open, and what it counted rose
-  pub failed_rose_at : (q : Inquiry) (list : ℕ) → Contains run.ran.ran.queries q → q.refusal ≡ Some (refusal.Look list why.Failed)
+  pub failed_rose_at : (q : Inquiry) (list : ℕ) → Contains run.ran.ran.queries q → q.refusal ≡ Some (refusal.Look list (why.Call kind.Failed))
       → (source_of q list < length run.sources.places) × Rose (run.mid (text_for q list)).sources.faults (r.after (text_for q list)).sources.faults
   failed_rose_at q list c e =
       let source = source_of q list in
-      let there = source_there kind.Failed why.Failed q list refl c e in
+      let there = source_there kind.Failed (why.Call kind.Failed) q list refl c e in
       let counts_long = run.opened.many_counts in
       let now_long = still_many in
       let within : source < length run.sources.places = omega (arith, there, counts_long) in
       let inside : source < length run.now = omega (arith, within, now_long) in
       let counted = run.ran.ran.counted source there in
-      let some = calls_behind kind.Failed why.Failed run.ran.ran.states run.ran.ran.queries q list r.settings.workers _ _ _ refl (served_all q c) c e counted.failed in
+      let some = calls_behind kind.Failed (why.Call kind.Failed) run.ran.ran.states run.ran.ran.queries q list r.settings.workers _ _ _ refl (served_all q c) c e counted.failed in
       (within, rose_faults _ run.mid r.after (text_for q list) _ run.back (counted_back r.catalog run.sources.places run.now source within inside) some)
 
-  pub garbled_rose_at : (q : Inquiry) (list : ℕ) → Contains run.ran.ran.queries q → q.refusal ≡ Some (refusal.Look list why.Garbled)
+  pub garbled_rose_at : (q : Inquiry) (list : ℕ) → Contains run.ran.ran.queries q → q.refusal ≡ Some (refusal.Look list (why.Call kind.Garbled))
       → (source_of q list < length run.sources.places) × Rose (run.mid (text_for q list)).sources.garbles (r.after (text_for q list)).sources.garbles
   garbled_rose_at q list c e =
       let source = source_of q list in
-      let there = source_there kind.Garbled why.Garbled q list refl c e in
+      let there = source_there kind.Garbled (why.Call kind.Garbled) q list refl c e in
       let counts_long = run.opened.many_counts in
       let now_long = still_many in
       let within : source < length run.sources.places = omega (arith, there, counts_long) in
       let inside : source < length run.now = omega (arith, within, now_long) in
       let counted = run.ran.ran.counted source there in
-      let some = calls_behind kind.Garbled why.Garbled run.ran.ran.states run.ran.ran.queries q list r.settings.workers _ _ _ refl (served_all q c) c e counted.garbled in
+      let some = calls_behind kind.Garbled (why.Call kind.Garbled) run.ran.ran.states run.ran.ran.queries q list r.settings.workers _ _ _ refl (served_all q c) c e counted.garbled in
       (within, rose_garbles _ run.mid r.after (text_for q list) _ run.back (counted_back r.catalog run.sources.places run.now source within inside) some)
 
   -- where a query is refused because a list was replaced, the log of its source tells this, what the source counted rose, and the version that it had is the
@@ -163,12 +163,12 @@ module _ (r : CatalogRun) (outcomes : List LineOutcome) (run : IsRun r outcomes)
     troubled : (text : List ℕ) → TroubleAt (run.mid text) (r.after text) → TroubleAt (r.before text) (r.after text)
     troubled text trouble = trouble_from (r.before text) (run.mid text) (r.after text) (moves_at run.opened.used r.before run.mid text run.opened.moves) trouble
 
-    none_failed : (q : Inquiry) (list : ℕ) → Contains run.ran.ran.queries q → q.refusal ≡ Some (refusal.Look list why.Failed) → ⊥
+    none_failed : (q : Inquiry) (list : ℕ) → Contains run.ran.ran.queries q → q.refusal ≡ Some (refusal.Look list (why.Call kind.Failed)) → ⊥
     none_failed q list c e =
         let h = failed_rose_at q list c e in
         calm (slice_index_or run.sources.places (source_of q list) 0) (wanted_source q list h.0) (troubled (text_for q list) (inr (inl h.1)))
 
-    none_garbled : (q : Inquiry) (list : ℕ) → Contains run.ran.ran.queries q → q.refusal ≡ Some (refusal.Look list why.Garbled) → ⊥
+    none_garbled : (q : Inquiry) (list : ℕ) → Contains run.ran.ran.queries q → q.refusal ≡ Some (refusal.Look list (why.Call kind.Garbled)) → ⊥
     none_garbled q list c e =
         let h = garbled_rose_at q list c e in
         calm (slice_index_or run.sources.places (source_of q list) 0) (wanted_source q list h.0) (troubled (text_for q list) (inr (inr h.1)))

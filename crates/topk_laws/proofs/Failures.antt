@@ -12,6 +12,7 @@ use Rattle.machine_base.specs.declared.answer.Answer.{Answer}
 use Rattle.machine_base.specs.declared.core_fault.CoreFault.TheVariants as core
 use Rattle.source_state.specs.declared.entry.SourceFault.TheVariants as fault
 use Rattle.source_state.specs.declared.look.LookFault.{LookFault}
+use Rattle.source_api.specs.declared.source.FailKind.TheVariants as kind
 use Rattle.source_state.specs.declared.look.LookFault.TheVariants as why
 use Rattle.query_text.specs.declared.query.Query.{Query}
 use Rattle.query_text.specs.Reading.{Reads}
@@ -303,11 +304,11 @@ module _ (r : CatalogRun) (outcomes : List LineOutcome) (run : IsRun r outcomes)
       absurd (not_listed refusal _ list (sym (refused_some _ refusal e)) refl fails)
   ran_why at bytes o q ready (ended.Look other (why.AsksFull kept)) refusal list admitted of served c ends is held e fails =
       absurd (not_listed refusal _ list (sym (refused_some _ refusal e)) refl fails)
-  ran_why at bytes o q ready (ended.Look other why.Memory) refusal list admitted of served c ends is held e fails = absurd cc
-  ran_why at bytes o q ready (ended.Look other why.Failed) refusal list admitted of served c ends is held e fails =
+  ran_why at bytes o q ready (ended.Look other (why.Call kind.Memory)) refusal list admitted of served c ends is held e fails = absurd cc
+  ran_why at bytes o q ready (ended.Look other (why.Call kind.Failed)) refusal list admitted of served c ends is held e fails =
       let same : Failed other ≡ refusal = refused_some (Failed other) refusal e in
       let number : other ≡ list = same_Some other list (ap failed_list same ∙ fails) in
-      let l = ran_list q ready other why.Failed served of ends in
+      let l = ran_list q ready other (why.Call kind.Failed) served of ends in
       let rose = failed_rose_at r outcomes run q other c ends in
       let text = text_for r outcomes run q other in
       record {
@@ -318,10 +319,10 @@ module _ (r : CatalogRun) (outcomes : List LineOutcome) (run : IsRun r outcomes)
         risen = subst (HasRisen (r.before text) (run.mid text) (r.after text)) same rose.1;
         had = subst (NamesVersion (slice_index_or o.versions list 0)) same tt;
       }
-  ran_why at bytes o q ready (ended.Look other why.Garbled) refusal list admitted of served c ends is held e fails =
+  ran_why at bytes o q ready (ended.Look other (why.Call kind.Garbled)) refusal list admitted of served c ends is held e fails =
       let same : Garbled other ≡ refusal = refused_some (Garbled other) refusal e in
       let number : other ≡ list = same_Some other list (ap failed_list same ∙ fails) in
-      let l = ran_list q ready other why.Garbled served of ends in
+      let l = ran_list q ready other (why.Call kind.Garbled) served of ends in
       let rose = garbled_rose_at r outcomes run q other c ends in
       let text = text_for r outcomes run q other in
       record {

@@ -13,8 +13,8 @@ use Rattle.topk_theory.proofs.AgreementLists.{contains_here, contains_there}
 use Rattle.topk_theory.proofs.Counts.{count_first, count_le, count_no, count_none, count_yes}
 use Rattle.machine_base.specs.declared.core_fault.CoreFault.TheVariants as core
 use Rattle.source_api.specs.declared.counts.Counts.{Counts}
-use Rattle.source_state.specs.declared.entry.FailKind.{FailKind}
-use Rattle.source_state.specs.declared.entry.FailKind.TheVariants as kind
+use Rattle.source_api.specs.declared.source.FailKind.{FailKind}
+use Rattle.source_api.specs.declared.source.FailKind.TheVariants as kind
 use Rattle.source_state.specs.declared.entry.SourceFault.{SourceFault}
 use Rattle.source_state.specs.declared.entry.SourceFault.TheVariants as fault
 use Rattle.source_state.specs.declared.look.LookFault.{LookFault}
@@ -63,8 +63,8 @@ fails_at what text place q (Some (refusal.Look list fault)) = is_fail what fault
 -- what a refusal says, and the kind of fail that it stands for
 pub record SaysOf (says : Refusal → Bool) (what : FailKind) : Type 0 where
   pub opening : (list : ℕ) → says (NotOpened list) ≡ false
-  pub failed : (list : ℕ) → says (Failed list) ≡ is_fail what why.Failed
-  pub garbled : (list : ℕ) → says (Garbled list) ≡ is_fail what why.Garbled
+  pub failed : (list : ℕ) → says (Failed list) ≡ is_fail what (why.Call kind.Failed)
+  pub garbled : (list : ℕ) → says (Garbled list) ≡ is_fail what (why.Call kind.Garbled)
   pub moved : (list had now : ℕ) → says (Moved list had now) ≡ false
 
 nowhere : (catalog : List Entry) (place : List ℕ) (query : Option Query) (b : Bool)
@@ -156,14 +156,14 @@ module _ (r : CatalogRun) (outcomes : List LineOutcome) (run : IsRun r outcomes)
   ended_at at bytes q ready (ended.Look list (why.AsksFull kept)) outcome admitted of c ends e counted =
       never (refused_at r.catalog says place (Some ready.query) outcome)
       (ap (refused_at r.catalog says place (Some ready.query)) (sym (same_Some _ outcome e)) ∙ unnamed r.catalog says place (Some ready.query) _ refl) counted
-  ended_at at bytes q ready (ended.Look list why.Memory) outcome admitted of c ends e counted = absurd cc
-  ended_at at bytes q ready (ended.Look list why.Failed) outcome admitted of c ends e counted =
-      called q ready list why.Failed (Failed list) (is.failed list) refl ends
-      (ran_at r outcomes run at bytes q ready list admitted of (ran_list r outcomes run q ready list why.Failed (served_all r outcomes run q c) of ends))
+  ended_at at bytes q ready (ended.Look list (why.Call kind.Memory)) outcome admitted of c ends e counted = absurd cc
+  ended_at at bytes q ready (ended.Look list (why.Call kind.Failed)) outcome admitted of c ends e counted =
+      called q ready list (why.Call kind.Failed) (Failed list) (is.failed list) refl ends
+      (ran_at r outcomes run at bytes q ready list admitted of (ran_list r outcomes run q ready list (why.Call kind.Failed) (served_all r outcomes run q c) of ends))
       (subst (λ x. refused_at r.catalog says place (Some ready.query) x ≡ true) (sym (same_Some (Refused (Failed list)) outcome e)) counted)
-  ended_at at bytes q ready (ended.Look list why.Garbled) outcome admitted of c ends e counted =
-      called q ready list why.Garbled (Garbled list) (is.garbled list) refl ends
-      (ran_at r outcomes run at bytes q ready list admitted of (ran_list r outcomes run q ready list why.Garbled (served_all r outcomes run q c) of ends))
+  ended_at at bytes q ready (ended.Look list (why.Call kind.Garbled)) outcome admitted of c ends e counted =
+      called q ready list (why.Call kind.Garbled) (Garbled list) (is.garbled list) refl ends
+      (ran_at r outcomes run at bytes q ready list admitted of (ran_list r outcomes run q ready list (why.Call kind.Garbled) (served_all r outcomes run q c) of ends))
       (subst (λ x. refused_at r.catalog says place (Some ready.query) x ≡ true) (sym (same_Some (Refused (Garbled list)) outcome e)) counted)
 
   line_refused : (at : ℕ) (bytes : List ℕ) (o : LineOutcome) → IsLineRefused X (at + 1) bytes o → is_refused_at r.catalog says place o ≡ false

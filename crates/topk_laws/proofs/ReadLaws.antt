@@ -8,7 +8,8 @@ use Rattle.limits.specs.declared.TheConstants.{MAX_BODY, MAX_PAGE}
 use Rattle.ranked_list.specs.declared.row.Row.{Row}
 use Rattle.source_api.specs.Told.{IsGrade}
 use Rattle.source_api.specs.declared.source.Trouble.{Trouble}
-use Rattle.source_api.specs.declared.source.Trouble.TheVariants.{Failed, Garbled, Memory, Moved}
+use Rattle.source_api.specs.declared.source.FailKind.TheVariants.{Failed, Garbled, Memory}
+use Rattle.source_api.specs.declared.source.Trouble.TheVariants.{Fail, Moved}
 use Rattle.page_json.specs.Bodies.{Fits}
 use Rattle.page_json.specs.declared.object.Versioned.{Versioned}
 use Rattle.http_source.specs.Answers.{AnswersSize, AnswersPage, AnswersGrade}
@@ -46,9 +47,9 @@ true_of what answer told list is h = subst (λ t. IfSome t (IsTrueOf what answer
 size_given : (count version at_hand : ℕ) (result : Result ℕ Trouble) → GivesSize (record { version = version; body = count }) at_hand result
     → ReadsSize count version at_hand result
 size_given count version at_hand (Ok size) h = h
-size_given count version at_hand (Err Failed) h = tt
-size_given count version at_hand (Err Garbled) h = h
-size_given count version at_hand (Err Memory) h = tt
+size_given count version at_hand (Err (Fail Failed)) h = tt
+size_given count version at_hand (Err (Fail Garbled)) h = h
+size_given count version at_hand (Err (Fail Memory)) h = tt
 size_given count version at_hand (Err (Moved had now)) h = h
 
 size_by : Laws → Global → (list : List Row) (version at_hand : ℕ) (body : List ℕ) (result : Result ℕ Trouble) (answer : Answer) → length list < 2 ^ 64
@@ -75,9 +76,9 @@ size_read laws heap list version at_hand body result few over answers =
 rows_given : (rows : List Row) (version at_hand count : ℕ) (result : Result (Vec Row) Trouble) → length rows ≤ count
     → GivesPage (record { version = version; body = rows }) at_hand count result → ReadsRows rows version at_hand result
 rows_given rows version at_hand count (Ok page) few h = h
-rows_given rows version at_hand count (Err Failed) few h = tt
-rows_given rows version at_hand count (Err Garbled) few h = omega (arith, few, h.1)
-rows_given rows version at_hand count (Err Memory) few h = tt
+rows_given rows version at_hand count (Err (Fail Failed)) few h = tt
+rows_given rows version at_hand count (Err (Fail Garbled)) few h = omega (arith, few, h.1)
+rows_given rows version at_hand count (Err (Fail Memory)) few h = tt
 rows_given rows version at_hand count (Err (Moved had now)) few h = h
 
 rows_by : Laws → Global → (list : List Row) (from count version at_hand : ℕ) (body : List ℕ) (result : Result (Vec Row) Trouble) (answer : Answer) → length list ≤ 2 ^ 32
@@ -108,9 +109,9 @@ rows_read laws heap list from count version at_hand body result short fit few ov
 grade_given : (list : List Row) (object version at_hand : ℕ) (grade : Option ℕ) (result : Result (Option ℕ) Trouble) → IsGrade list object grade
     → GivesGrade (record { version = version; body = grade }) at_hand result → ReadsGrade list object version at_hand result
 grade_given list object version at_hand grade (Ok found) told h = (subst (IsGrade list object) (sym h.0) told, h.1)
-grade_given list object version at_hand grade (Err Failed) told h = tt
-grade_given list object version at_hand grade (Err Garbled) told h = h
-grade_given list object version at_hand grade (Err Memory) told h = tt
+grade_given list object version at_hand grade (Err (Fail Failed)) told h = tt
+grade_given list object version at_hand grade (Err (Fail Garbled)) told h = h
+grade_given list object version at_hand grade (Err (Fail Memory)) told h = tt
 grade_given list object version at_hand grade (Err (Moved had now)) told h = h
 
 grade_fits : (list : List Row) (object : ℕ) (grade : Option ℕ) → All Fits list → IsGrade list object grade → IfSome grade (λ g. g < 2 ^ 32)

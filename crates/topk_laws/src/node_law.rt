@@ -28,6 +28,7 @@ pub fn a_node_is_read_back(heap: Global)
     ensures grade { (list : List Row) (object version at_hand : ℕ) (body : List ℕ) (result : Result (Option ℕ) Trouble) → All Fits list
         → AnswersOver (asked.Grade object) list version body → AnswersGrade (json_reply body) at_hand result → ReadsGrade list object version at_hand result }
 {
+    // Serves the prover alone: its proof needs a heap for the body that is read.
     let _ = heap;
     a_body_says_its_answer();
     what_is_said_is_given();
