@@ -82,7 +82,7 @@ def main():
         (place / "catalog.csv").write_text("name,place,random\n" + "".join(f"{name},{name}.csv,yes\n" for name in lists))
         for what, at, line, requests in (
             ("24 hotels", HOTELS, "top 2 by sum(price,rating,centre) using ta", 20_000),
-            ("4 lists of 20,000 rows", place, f"top 10 by sum({','.join(lists)}) using ta", 200),
+            ("4 lists of 20,000 rows", place, f"top 10 by sum({','.join(lists)}) using ta", 2_000),
         ):
             target = f"/top?q={urllib.parse.quote(line)}"
             for workers in (1, 4):

@@ -24,7 +24,7 @@ use Rattle.query_server.specs.declared.server.Served.{Served}
 use Rattle.query_server.specs.declared.server.Served.TheVariants.{Ended, PortFault as AtFault, Memory as NoMemory}
 use Rattle.call_ends.specs.Shelves.{Shelf}
 use Rattle.port_calls.specs.Ports.{Ports}
-use Rattle.port_calls.specs.Opening.{Borrows, BorrowsAll, IsOneOf, entry_of, every}
+use Rattle.port_calls.specs.Opening.{Borrows, BorrowsAll, IsOneOf, entry_of, every, OpensAll}
 use Rattle.port_calls.specs.ServeEnds.{EndsLists, ServesPort}
 
 -- each entry of a catalog is marked, and nothing else
@@ -150,10 +150,10 @@ borrows_all catalog before mid now back b once puts =
     record { borrows = b; once = once_back catalog (every catalog) back before.at mid.at now.at once puts }
 
 pub lists_end : (conns : ℕ) (catalog : List Entry) (before now : Shelf) (p : Ports) (served : Served) → BorrowsAll catalog before now
-    → ServesPort conns p served → p.after.closed ≡ p.before.closed → EndsLists conns catalog before now p served
-lists_end conns catalog before now p (Ended count) b serves closed = record { borrows = b; serves = serves; closed = closed }
-lists_end conns catalog before now p AtFault b serves closed = record { borrows = b; serves = serves; closed = closed }
-lists_end conns catalog before now p NoMemory b serves closed = b.borrows
+    → OpensAll catalog before → ServesPort conns p served → p.after.closed ≡ p.before.closed → EndsLists conns catalog before now p served
+lists_end conns catalog before now p (Ended count) b opens serves closed = record { borrows = b; opens = opens; serves = serves; closed = closed }
+lists_end conns catalog before now p AtFault b opens serves closed = record { borrows = b; opens = opens; serves = serves; closed = closed }
+lists_end conns catalog before now p NoMemory b opens serves closed = b.borrows
 
 mapped_next : (openings : List Opening) (place : ℕ) → place < length openings
     → map entry_of (take (suc place) openings) ≡ map entry_of (take place openings) ++ entry_of (opening_at openings place) ∷ []

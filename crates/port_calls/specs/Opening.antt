@@ -1,10 +1,10 @@
 -- The lists of a catalog all of whose sources were opened.
-use Rattle.std.specs.Prelude.{◌<◌, ℕ, Bool, true, List, length, nat_le, replicate, if◌then◌else◌}
+use Rattle.std.specs.Prelude.{◌≡◌, ◌<◌, ℕ, Bool, true, List, length, map, nat_le, replicate, if◌then◌else◌}
 use Rattle.limits.specs.declared.TheConstants.{MAX_OBJECTS}
 use Rattle.catalog_text.specs.Catalog.{Listed as Entry}
 use Rattle.catalog_open.specs.declared.opened.Opening.{Opening}
 use Rattle.catalog_open.specs.declared.opened.Opening.TheVariants.{Closed, Open}
-use Rattle.catalog_open.specs.Openings.{Used, Moves, KeepsOthers, AsksEachAtMostOnce, AsksEachOnce}
+use Rattle.catalog_open.specs.Openings.{Counted, Used, Moves, Sources, AreOpened, KeepsOthers, AsksEachAtMostOnce, AsksEachOnce}
 use Rattle.query_server.specs.declared.opened.OpenedEntry.{OpenedEntry}
 use Rattle.query_server.specs.declared.opened.OpenedEntry.TheVariants.{Opened, NotOpened, TooLarge}
 use Rattle.call_ends.specs.Shelves.{Shelf, TellsTheSame}
@@ -34,3 +34,14 @@ pub record Borrows (catalog : List Entry) (before now : Shelf) : Type 0 where
 pub record BorrowsAll (catalog : List Entry) (before now : Shelf) : Type 0 where
   pub borrows : Borrows catalog before now
   pub once : AsksEachOnce catalog (every catalog) before.at now.at
+
+-- the source of each list of a catalog was opened, and this became of the lists: one is open, or too large, by what its source states, and not open where
+-- a call that takes its source, or one of the source, failed or was garbled
+pub record OpensAll (catalog : List Entry) (before : Shelf) : Type 0 where
+  pub then_counted : Counted
+  pub openings : List Opening
+  pub sources : Sources
+  pub opened : AreOpened before.lists before.versions catalog (IsOneOf catalog) before.at then_counted openings sources
+  pub entries : List OpenedEntry
+  pub many : length entries ≡ length catalog
+  pub became : entries ≡ map entry_of openings

@@ -17,7 +17,7 @@ use Rattle.catalog_run.specs.RunEnds.{from_shelf}
 use Rattle.port_calls.specs.NodeEnds.{NoCatalog, AskedNothing}
 use Rattle.port_calls.specs.NodeTexts.{served_text}
 use Rattle.port_calls.specs.Ports.{Ports, KeepsPort}
-use Rattle.port_calls.specs.Opening.{Borrows, BorrowsAll}
+use Rattle.port_calls.specs.Opening.{Borrows, BorrowsAll, OpensAll}
 
 -- the port failed to listen: no link was taken
 pub record ListenFailed (p : Ports) : Type 0 where
@@ -30,9 +30,11 @@ ServesPort conns p (Ended count) = TookAll conns p.before.links p.after.links p.
 ServesPort conns p AtFault = ListenFailed p ⊎ TookSome conns p.before.links p.after.links p.before.faults p.after.faults
 ServesPort conns p NoMemory = ⊤
 
--- the sources of a catalog were taken and put back, and between the two the port was served; want of memory says nothing of the port
+-- the sources of a catalog were taken, which says what became of the lists, and put back, and between the two the port was served; want of memory says
+-- nothing of the port
 pub record ServesThem (conns : ℕ) (catalog : List Entry) (before now : Shelf) (p : Ports) (served : Served) : Type 0 where
   pub borrows : BorrowsAll catalog before now
+  pub opens : OpensAll catalog before
   pub serves : ServesPort conns p served
   pub closed : p.after.closed ≡ p.before.closed
 

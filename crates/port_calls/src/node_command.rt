@@ -14,7 +14,7 @@ use call_ends::Status;
 use catalog_run::refuse;
 use catalog_text::{Catalog, read_catalog};
 use command_words::NodeOptions;
-use source_api::{Shelf, Trouble};
+use source_api::{FailKind, Shelf, Trouble};
 use std::alloc::Global;
 use tk_io::{Port, Sink};
 
@@ -47,9 +47,9 @@ pub fn node<H: Shelf, K: Sink, P: Port>(
 {
     match shelf.text(alloc, options.catalog.as_str()) {
         Ok(text) => node_over(alloc, text, options, shelf, out, port),
-        Err(Trouble::Memory) => Status::Memory,
-        Err(Trouble::Failed) => Status::OpenFault,
-        Err(Trouble::Garbled) => Status::OpenFault,
+        Err(Trouble::Fail(FailKind::Memory)) => Status::Memory,
+        Err(Trouble::Fail(FailKind::Failed)) => Status::OpenFault,
+        Err(Trouble::Fail(FailKind::Garbled)) => Status::OpenFault,
         Err(Trouble::Moved { .. }) => unreachable!(),
     }
 }

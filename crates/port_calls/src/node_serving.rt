@@ -10,7 +10,7 @@ ghost use Rattle.port_calls.specs.NodeEnds.{EndsAtPlace, ServesAt};
 use super::said::end_served;
 use call_ends::Status;
 use command_words::NodeOptions;
-use source_api::{Shelf, Source, Trouble};
+use source_api::{FailKind, Shelf, Source, Trouble};
 use source_node::{Served, serve_links};
 use std::alloc::Global;
 use tk_io::{Port, Sink};
@@ -36,9 +36,9 @@ pub(crate) fn serve_place<H: Shelf, K: Sink, P: Port>(
             shelf.put_back(place, source);
             end_served(out, served)
         }
-        Err(Trouble::Memory) => Status::Memory,
-        Err(Trouble::Failed) => Status::OpenFault,
-        Err(Trouble::Garbled) => Status::OpenFault,
+        Err(Trouble::Fail(FailKind::Memory)) => Status::Memory,
+        Err(Trouble::Fail(FailKind::Failed)) => Status::OpenFault,
+        Err(Trouble::Fail(FailKind::Garbled)) => Status::OpenFault,
         Err(Trouble::Moved { .. }) => unreachable!(),
     }
 }

@@ -1,4 +1,4 @@
-//! What a node writes.
+//! What a node writes, and how many links it says were served.
 
 ghost use Rattle.std.specs.Prelude.{◌≡◌, ◌≤◌};
 ghost use Rattle.call_ends.specs.Calls.{output_as};

@@ -17,7 +17,7 @@ use catalog_run::refuse;
 use catalog_text::{Catalog, read_catalog};
 use command_words::ServeOptions;
 use query_server::Served;
-use source_api::{Shelf, Trouble};
+use source_api::{FailKind, Shelf, Trouble};
 use std::alloc::Global;
 use std::sync::Wait;
 use std::thread::Threads;
@@ -53,9 +53,9 @@ pub fn serve<W: Threads + Wait + Sync, H: Shelf, K: Sink, P: Port>(
 {
     match shelf.text(alloc, options.catalog.as_str()) {
         Ok(text) => serve_over(rt, alloc, text, options, shelf, out, port),
-        Err(Trouble::Memory) => Status::Memory,
-        Err(Trouble::Failed) => Status::OpenFault,
-        Err(Trouble::Garbled) => Status::OpenFault,
+        Err(Trouble::Fail(FailKind::Memory)) => Status::Memory,
+        Err(Trouble::Fail(FailKind::Failed)) => Status::OpenFault,
+        Err(Trouble::Fail(FailKind::Garbled)) => Status::OpenFault,
         Err(Trouble::Moved { .. }) => unreachable!(),
     }
 }

@@ -9,7 +9,7 @@ ghost use Rattle.query_server.specs.Entries.{AreEntriesOf};
 ghost use Rattle.query_server.specs.Homes.{AreHomes, home_of};
 ghost use Rattle.call_ends.specs.Calls.{shelf_as};
 ghost use Rattle.port_calls.specs.Ports.{ports_of};
-ghost use Rattle.port_calls.specs.Opening.{IsOneOf, every};
+ghost use Rattle.port_calls.specs.Opening.{IsOneOf, entry_of, every};
 ghost use Rattle.port_calls.specs.ServeEnds.{EndsLists, ServesPort};
 
 use super::entries::{entries_of, mark_every};
@@ -80,6 +80,7 @@ fn open_all<H: Shelf>(
     ensures once { OnOk result (AsksEachOnce catalog.now (every catalog.now) (H.at shelf.old) (H.at shelf.new)) }
     ensures few_asks { AsksEachAtMostOnce catalog.now (every catalog.now) (H.at shelf.old) (H.at shelf.new) }
     ensures entries { IfOk result (λ entries. AreEntriesOf catalog.now entries.items) }
+    ensures became { IfOk result (λ entries. entries.items ≡ map entry_of opened.new.openings.items) }
     ensures homes { IfOk result (λ entries. AreHomes (length slots.new.items) (map home_of entries.items)) }
 {
     let Ok(marks) = mark_every(alloc, catalog) else {

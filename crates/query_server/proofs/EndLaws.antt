@@ -122,9 +122,9 @@ told_sent held held_now faults faults_now body is_head told end is sends = recor
 }
 
 -- the same by an equal test
-pub by_test : (held held_now : Option (List ℕ)) (faults faults_now : ℕ) (is_head test : Bool) (why : Refusal) (turn : Turn) → is_head ≡ test
-    → SendsAnswer is_head (Err why) held held_now faults faults_now turn → SendsAnswer test (Err why) held held_now faults faults_now turn
-by_test held held_now faults faults_now is_head test why turn is sends = subst (λ t. SendsAnswer t (Err why) held held_now faults faults_now turn) is sends
+pub by_test : (held held_now : Option (List ℕ)) (faults faults_now : ℕ) (is_head test : Bool) (answer : Result Told Refusal) (turn : Turn) → is_head ≡ test
+    → SendsAnswer is_head answer held held_now faults faults_now turn → SendsAnswer test answer held held_now faults faults_now turn
+by_test held held_now faults faults_now is_head test answer turn is sends = subst (λ t. SendsAnswer t answer held held_now faults faults_now turn) is sends
 
 -- a link that failed while the request was read
 pub unread : (view : View) (visit : Visit) (turn : Turn) → turn ≡ record { end = LinkFault; moved = false } → Rose visit.read_faults visit.read_faults_now

@@ -2,7 +2,7 @@
 use Rattle.std.proofs.Common.{◌≡◌, ℕ, List, cond, Option, Some, slice_index_or, refl, ap, ◌∙◌, subst, eq-eqb}
 use Rattle.machine_base.specs.declared.core_fault.CoreFault.TheVariants as core
 use Rattle.turn_lock.specs.declared.facts.Tally.{Tally}
-use Rattle.source_state.specs.declared.entry.FailKind.TheVariants as kind
+use Rattle.source_api.specs.declared.source.FailKind.TheVariants as kind
 use Rattle.source_state.specs.declared.entry.SourceFault.TheVariants as fault
 use Rattle.source_state.specs.declared.look.LookFault.{LookFault}
 use Rattle.source_state.specs.declared.look.LookFault.TheVariants as look
@@ -24,7 +24,7 @@ use Rattle.line_outcome.specs.Outcomes.{ended_outcome}
 use Rattle.query_server.specs.Becoming.{RunsTo, ShowsOneMore}
 
 -- a query with such an outcome ended so
-ended_failed : (e : Ended) (list : ℕ) → ended_outcome e ≡ Some (Refused (Failed list)) → e ≡ ended.Look list look.Failed
+ended_failed : (e : Ended) (list : ℕ) → ended_outcome e ≡ Some (Refused (Failed list)) → e ≡ ended.Look list (look.Call kind.Failed)
 ended_failed (ended.Answered answer) list is = absurd cc
 ended_failed (ended.Core (core.Strangers object count)) list is = absurd cc
 ended_failed (ended.Core (core.RoomFull room)) list is = absurd cc
@@ -37,11 +37,11 @@ ended_failed (ended.Look l (look.Source (fault.ShortList stated got))) list is =
 ended_failed (ended.Look l (look.Source (fault.Moved had now))) list is = absurd cc
 ended_failed (ended.Look l (look.Missing object)) list is = absurd cc
 ended_failed (ended.Look l (look.AsksFull kept)) list is = absurd cc
-ended_failed (ended.Look l look.Failed) list is = let same : l ≡ list = cc in ap (λ n. ended.Look n look.Failed) same
-ended_failed (ended.Look l look.Garbled) list is = absurd cc
-ended_failed (ended.Look l look.Memory) list is = absurd cc
+ended_failed (ended.Look l (look.Call kind.Failed)) list is = let same : l ≡ list = cc in ap (λ n. ended.Look n (look.Call kind.Failed)) same
+ended_failed (ended.Look l (look.Call kind.Garbled)) list is = absurd cc
+ended_failed (ended.Look l (look.Call kind.Memory)) list is = absurd cc
 
-ended_garbled : (e : Ended) (list : ℕ) → ended_outcome e ≡ Some (Refused (Garbled list)) → e ≡ ended.Look list look.Garbled
+ended_garbled : (e : Ended) (list : ℕ) → ended_outcome e ≡ Some (Refused (Garbled list)) → e ≡ ended.Look list (look.Call kind.Garbled)
 ended_garbled (ended.Answered answer) list is = absurd cc
 ended_garbled (ended.Core (core.Strangers object count)) list is = absurd cc
 ended_garbled (ended.Core (core.RoomFull room)) list is = absurd cc
@@ -54,9 +54,9 @@ ended_garbled (ended.Look l (look.Source (fault.ShortList stated got))) list is 
 ended_garbled (ended.Look l (look.Source (fault.Moved had now))) list is = absurd cc
 ended_garbled (ended.Look l (look.Missing object)) list is = absurd cc
 ended_garbled (ended.Look l (look.AsksFull kept)) list is = absurd cc
-ended_garbled (ended.Look l look.Failed) list is = absurd cc
-ended_garbled (ended.Look l look.Garbled) list is = let same : l ≡ list = cc in ap (λ n. ended.Look n look.Garbled) same
-ended_garbled (ended.Look l look.Memory) list is = absurd cc
+ended_garbled (ended.Look l (look.Call kind.Failed)) list is = absurd cc
+ended_garbled (ended.Look l (look.Call kind.Garbled)) list is = let same : l ≡ list = cc in ap (λ n. ended.Look n (look.Call kind.Garbled)) same
+ended_garbled (ended.Look l (look.Call kind.Memory)) list is = absurd cc
 
 -- a fault that refused a query was shown of the list's source
 shown_at : (ready : Ready) (before now : List Hold) (e : Ended) (list : ℕ) (f : LookFault) → Ran ready before now e → e ≡ ended.Look list f
@@ -74,9 +74,9 @@ shown_at ready before now e list f ran is =
 pub failed_shown : (ready : Ready) (before now : List Hold) (o : LineOutcome) (list : ℕ) → RunsTo ready before now o
     → o.outcome ≡ Refused (Failed list) → ShowsOneMore kind.Failed ready list before now
 failed_shown ready before now o list runs is =
-    shown_at ready before now runs.ended list look.Failed runs.ran (ended_failed runs.ended list (runs.outcome.outcome ∙ ap Some is))
+    shown_at ready before now runs.ended list (look.Call kind.Failed) runs.ran (ended_failed runs.ended list (runs.outcome.outcome ∙ ap Some is))
 
 pub garbled_shown : (ready : Ready) (before now : List Hold) (o : LineOutcome) (list : ℕ) → RunsTo ready before now o
     → o.outcome ≡ Refused (Garbled list) → ShowsOneMore kind.Garbled ready list before now
 garbled_shown ready before now o list runs is =
-    shown_at ready before now runs.ended list look.Garbled runs.ran (ended_garbled runs.ended list (runs.outcome.outcome ∙ ap Some is))
+    shown_at ready before now runs.ended list (look.Call kind.Garbled) runs.ran (ended_garbled runs.ended list (runs.outcome.outcome ∙ ap Some is))

@@ -3,6 +3,7 @@ mod ListLaws
 mod PassLaws
 mod LineLaws
 mod EndLaws
+mod AnswerLaws
 mod FailLaws
 -- Lemmas on links that are taken one after another.
 pub mod TakingLaws

@@ -44,4 +44,4 @@ refused_written view number bytes refusal query o refused is =
 -- a line whose query ran
 pub run_becomes : (view : View) (number : ℕ) (bytes : List ℕ) (before now : List Hold) (ready : Ready) → IsAdmitted (line_over view number bytes) ready
     → (o : LineOutcome) → RunsTo ready before now o → BecomesHere view number bytes before now o
-run_becomes view number bytes before now ready admitted o runs = inr (record { ready = ready; admitted = admitted; runs = runs })
+run_becomes view number bytes before now ready admitted o runs = inr (inl (record { ready = ready; admitted = admitted; runs = runs }))

@@ -1,6 +1,6 @@
 -- What becomes of a query line that is answered through a pass of a pool.
 use Rattle.std.specs.Prelude.{◌≡◌, ◌⊎◌, ℕ, Bool, true, false, List, slice_index_or}
-use Rattle.source_state.specs.declared.entry.FailKind.{FailKind}
+use Rattle.source_api.specs.declared.source.FailKind.{FailKind}
 use Rattle.source_state.specs.Events.{counted}
 use Rattle.source_pool.specs.declared.hold.Hold.{Hold}
 use Rattle.source_pool.specs.Passes.{hold_at}
@@ -16,6 +16,7 @@ use Rattle.query_admission.specs.declared.line_outcome.LineOutcome.{LineOutcome}
 use Rattle.query_run.specs.declared.ended.Ended.{Ended}
 use Rattle.query_run.specs.Endings.{IsRight}
 use Rattle.query_run.specs.Ran.{Ran}
+use Rattle.batch_run.specs.Working.{KnowsAll}
 use Rattle.query_admission.specs.Causes.{line_over}
 use Rattle.line_outcome.specs.LineOutcomes.{IsEndedAs, IsLineRefused}
 use Rattle.query_server.specs.declared.line.Told.{Told as ToldLine}
@@ -39,10 +40,23 @@ pub record IsRunHere (view : View) (number : ℕ) (bytes : List ℕ) (before now
   pub admitted : IsAdmitted (line_over view number bytes) ready
   pub runs : RunsTo ready before now o
 
--- what becomes of a line: it is refused before it runs, which looks at no source, or its query runs through the pass
+abbrev pub is_answer : Outcome → Bool
+is_answer (Answered answer) = true
+is_answer (Refused refusal) = false
+
+-- the line was answered so earlier in this pass: its query ran through the pass as it was then, and the pass knows no less now
+pub record WasAnswered (view : View) (number : ℕ) (bytes : List ℕ) (holds : List Hold) (o : LineOutcome) : Type 0 where
+  pub before : List Hold
+  pub then_held : List Hold
+  pub run : IsRunHere view number bytes before then_held o
+  pub answer : is_answer o.outcome ≡ true
+  pub since : KnowsAll then_held holds
+
+-- what becomes of a line: it is refused before it runs, its query runs through the pass, or it was answered before. Only a run looks at a source
 abbrev pub BecomesHere : View → ℕ → List ℕ → List Hold → List Hold → LineOutcome → Type 0
 BecomesHere view number bytes before now o =
-    (IsLineRefused view number bytes o × (now ≡ before)) ⊎ IsRunHere view number bytes before now o
+    (IsLineRefused view number bytes o × (now ≡ before))
+    ⊎ (IsRunHere view number bytes before now o ⊎ (WasAnswered view number bytes before o × (now ≡ before)))
 
 -- the refusal of a query whose source moved to another version
 abbrev pub is_move : Refusal → Bool
@@ -57,18 +71,20 @@ is_moved (Refused refusal) = is_move refusal
 abbrev pub line_text : LineOutcome → List ℕ
 line_text o = outcome_text 1 o.query o.count o.versions o.outcome
 
--- what is told of a line: a text, and whether a source moved
+-- what is told of a line: a text, whether it is an answer, and whether a source moved
 pub record Told : Type 0 where
   pub text : List ℕ
+  pub answered : Bool
   pub moved : Bool
 
 -- the same of what was made
 abbrev pub shown : ToldLine → Told
-shown told = record { text = told.text.items; moved = told.moved }
+shown told = record { text = told.text.items; answered = told.answered; moved = told.moved }
 
 -- the line of a request is told by what becomes of it
 pub record IsTold (view : View) (bytes : List ℕ) (before now : List Hold) (told : Told) : Type 0 where
   pub outcome : LineOutcome
   pub becomes : BecomesHere view 1 bytes before now outcome
   pub text : told.text ≡ line_text outcome
+  pub answered : told.answered ≡ is_answer outcome.outcome
   pub moved : told.moved ≡ is_moved outcome.outcome

@@ -115,3 +115,8 @@ abbrev pub IsRepliedTo : View → List ℕ → List ℕ → List Hold → List H
 IsRepliedTo view method target before now held held_now faults faults_now turn =
     (answer : Result Told Refusal) × Serves view method target before now answer
     × SendsAnswer (bytes_eq method (codes "HEAD")) answer held held_now faults faults_now turn
+
+-- a query line was told and the reply written, or a front of it
+abbrev pub IsLineReplied : View → List ℕ → Bool → List Hold → List Hold → Option (List ℕ) → Option (List ℕ) → ℕ → ℕ → Turn → Type 0
+IsLineReplied view line is_head before now held held_now faults faults_now turn =
+    (answer : Result Told Refusal) × Tells view line before now answer × SendsAnswer is_head answer held held_now faults faults_now turn

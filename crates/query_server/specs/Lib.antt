@@ -3,6 +3,8 @@ pub mod Entries
 pub mod Asking
 pub mod Becoming
 pub mod Connections
+-- What a worker remembers of the lines that it answered.
+pub mod Answers
 -- What is taken of a port whose links are put into a queue.
 pub mod Accepting
 -- Which sources the open lists of a catalog have, and how many objects a pool is to have of each.

@@ -2,16 +2,16 @@
 
 ghost use Rattle.std.specs.Prelude.{◌≡◌, true, codes, Some, option_copied, Err};
 ghost use Rattle.std.specs.Str.{bytes_eq};
-ghost use Rattle.std.specs.Result.{result_map_both};
 ghost use Rattle.wire.specs.Writing.{has_reason, reply_text};
 ghost use Rattle.source_node.specs.Refusals.{status_of, body_of};
 ghost use Rattle.query_server.specs.Entries.{view_in, MayAnswer};
 ghost use Rattle.batch_run.specs.Working.{KnowsAll};
-ghost use Rattle.query_server.specs.Becoming.{shown};
-ghost use Rattle.query_server.specs.Connections.{Ends, Serves, Sends, SendsAnswer, IsRepliedTo};
+ghost use Rattle.query_server.specs.Answers.{Remembers};
+ghost use Rattle.query_server.specs.Connections.{Ends, Sends, SendsAnswer, IsRepliedTo, IsLineReplied};
 
+use super::answers::Answers;
 use super::asked::line_asked;
-use super::line::{Told, tell_line};
+use super::line::tell_line;
 use super::opened::Opened;
 use source_node::Refusal;
 use source_pool::{Pool, PoolPass};
@@ -46,21 +46,26 @@ pub struct Turn {
 /// the reply is begun; and else 200.
 ///
 /// With 200 the body is the text of what becomes of the bytes of `q` as the first query line of an input, a certificate or a refusal: the
-/// line is admitted over the catalog, and its query runs over the pool. Every other reply says its reason, but that one to the method HEAD
+/// line is admitted over the catalog, and its query runs over the pool. Where the line was answered before through this pass and its answer
+/// is remembered, the body is that answer, and no source is looked at. Every other reply says its reason, but that one to the method HEAD
 /// has no body. All are plain text.
 ///
-/// *Cost*: the text of the reply is made in memory before it is written, since its length stands before it.
+/// *Cost*: the text of the reply is made in memory before it is written, since its length stands before it. What is remembered is
+/// compared with the line, and written as it stands.
 pub fn serve_conn<L: Link>(
     rt: &impl Wait,
     alloc: Global,
     catalog: &Opened,
     pool: &Pool,
     pass: &mut PoolPass,
+    answers: &mut Answers,
     link: &mut L,
 ) -> Turn
     requires fit { MayAnswer catalog.now pool.now pass.old }
+    requires remembers { Remembers (view_in catalog.now) pass.old answers.old }
     ensures fit { MayAnswer catalog.now pool.now pass.new }
     ensures knows { KnowsAll pass.old pass.new }
+    ensures remembers { Remembers (view_in catalog.now) pass.new answers.new }
     ensures ends { Ends (view_in catalog.now) (record {
       came = L.left link.old;
       held = L.held link.old;
@@ -75,7 +80,7 @@ pub fn serve_conn<L: Link>(
 {
     match read_request(alloc, link) {
         Ok(head) => {
-            let turn = answer_head(rt, alloc, catalog, pool, pass, link, &head);
+            let turn = answer_head(rt, alloc, catalog, pool, pass, answers, link, &head);
             drop(head);
             turn
         }
@@ -96,25 +101,31 @@ fn answer_head<L: Link>(
     catalog: &Opened,
     pool: &Pool,
     pass: &mut PoolPass,
+    answers: &mut Answers,
     link: &mut L,
     head: &Head,
 ) -> Turn
     requires fit { MayAnswer catalog.now pool.now pass.old }
+    requires remembers { Remembers (view_in catalog.now) pass.old answers.old }
     ensures fit { MayAnswer catalog.now pool.now pass.new }
     ensures knows { KnowsAll pass.old pass.new }
+    ensures remembers { Remembers (view_in catalog.now) pass.new answers.new }
     ensures apart { L.Sink.aside link.new ≡ L.Sink.aside link.old }
     ensures incoming { (L.left link.new ≡ L.left link.old) × (L.Intake.faults link.new ≡ L.Intake.faults link.old) }
     ensures replied { IsRepliedTo (view_in catalog.now) head.now.method.items head.now.target.items pass.old pass.new
         (L.held link.old) (L.held link.new) (L.Sink.faults link.old) (L.Sink.faults link.new) result }
 {
-    match serve(rt, alloc, catalog, pool, pass, head) {
-        Ok(told) => {
-            let end = send(link, 200, Some(told.text.as_slice()));
-            let moved = told.moved;
-            drop(told);
-            Turn { end, moved }
+    let is_head = is_head(head);
+    match line_asked(alloc, head) {
+        Ok(line) => {
+            let bytes = line.as_str().as_bytes();
+            let turn = answer_line(
+                rt, alloc, catalog, pool, pass, answers, link, bytes, is_head,
+            );
+            drop(line);
+            turn
         }
-        Err(why) => refuse(link, why, is_head(head)),
+        Err(why) => refuse(link, why, is_head),
     }
 }
 
@@ -125,28 +136,43 @@ fn is_head(head: &Head) -> bool
     head.method.as_slice() == b"HEAD".as_slice()
 }
 
-/// What is told of the line that a request with this head asks about, or why it is refused.
-fn serve(
+/// Replies to a request for a query line: by the answer that is remembered of it, or by what is told of it now.
+fn answer_line<L: Link>(
     rt: &impl Wait,
     alloc: Global,
     catalog: &Opened,
     pool: &Pool,
     pass: &mut PoolPass,
-    head: &Head,
-) -> Result<Told, Refusal>
+    answers: &mut Answers,
+    link: &mut L,
+    line: &[u8],
+    is_head: bool,
+) -> Turn
     requires fit { MayAnswer catalog.now pool.now pass.old }
+    requires remembers { Remembers (view_in catalog.now) pass.old answers.old }
     ensures fit { MayAnswer catalog.now pool.now pass.new }
     ensures knows { KnowsAll pass.old pass.new }
-    ensures serves { Serves (view_in catalog.now) head.now.method.items head.now.target.items pass.old pass.new
-        (result_map_both shown (λ why. why) result) }
+    ensures remembers { Remembers (view_in catalog.now) pass.new answers.new }
+    ensures apart { L.Sink.aside link.new ≡ L.Sink.aside link.old }
+    ensures incoming { (L.left link.new ≡ L.left link.old) × (L.Intake.faults link.new ≡ L.Intake.faults link.old) }
+    ensures replied { IsLineReplied (view_in catalog.now) line.now is_head pass.old pass.new
+        (L.held link.old) (L.held link.new) (L.Sink.faults link.old) (L.Sink.faults link.new) result }
 {
-    match line_asked(alloc, head) {
-        Ok(line) => {
-            let told = tell_line(rt, alloc, catalog, pool, pass, line.as_str().as_bytes());
-            drop(line);
-            told
+    if let Some(text) = answers.find(line) {
+        return Turn {
+            end: send(link, 200, Some(text)),
+            moved: false,
+        };
+    }
+    match tell_line(rt, alloc, catalog, pool, pass, line) {
+        Ok(told) => {
+            let end = send(link, 200, Some(told.text.as_slice()));
+            let moved = told.moved;
+            answers.keep(alloc, line, &told);
+            drop(told);
+            Turn { end, moved }
         }
-        Err(why) => Err(why),
+        Err(why) => refuse(link, why, is_head),
     }
 }
 

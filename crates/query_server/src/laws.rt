@@ -2,7 +2,7 @@
 
 ghost use Rattle.std.specs.Prelude.{◌≡◌, ℕ, List};
 ghost use Rattle.source_pool.specs.declared.hold.Hold.{Hold};
-ghost use Rattle.source_state.specs.declared.entry.FailKind.TheVariants as FailKind;
+ghost use Rattle.source_api.specs.declared.source.FailKind.TheVariants as FailKind;
 ghost use Rattle.cert_text.specs.declared.outcome.Outcome.TheVariants as Outcome;
 ghost use Rattle.cert_text.specs.declared.refusal.Refusal.TheVariants as Refusal;
 ghost use Rattle.query_core.specs.declared.ready.Ready.{Ready};

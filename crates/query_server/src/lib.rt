@@ -10,6 +10,7 @@
 #![tactic(auto)]
 
 mod accepting;
+mod answers;
 mod asked;
 mod conn;
 mod counting;
@@ -27,6 +28,7 @@ mod text;
 mod waiting;
 
 pub use accepting::{Accepted, accept_all};
+pub use answers::{Answers, MAX_ANSWER, MAX_ANSWERS};
 pub use conn::{ConnEnd, Turn, serve_conn};
 pub use laws::fails_are_shown;
 pub use limits::Memory;

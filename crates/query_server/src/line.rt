@@ -8,7 +8,7 @@ ghost use Rattle.query_run.specs.Advancing.{WaitsForNothing, HasSourcesIn};
 ghost use Rattle.line_outcome.specs.LineOutcomes.{CanBeWritten};
 ghost use Rattle.query_server.specs.Entries.{view_in, MayAnswer};
 ghost use Rattle.batch_run.specs.Working.{KnowsAll};
-ghost use Rattle.query_server.specs.Becoming.{RunsTo, BecomesHere, is_move, is_moved, shown};
+ghost use Rattle.query_server.specs.Becoming.{RunsTo, BecomesHere, is_answer, is_move, is_moved, shown};
 ghost use Rattle.query_server.specs.Connections.{Tells};
 
 use super::opened::Opened;
@@ -22,10 +22,11 @@ use source_pool::{Pool, PoolPass};
 use std::alloc::Global;
 use std::sync::Wait;
 
-/// What is told of a query line: its outcome in text, and whether that is the refusal of a query whose source moved.
+/// What is told of a query line: its outcome in text, whether that is an answer, and whether it is the refusal of a query whose source moved.
 #[derive(Drop)]
 pub(crate) struct Told {
     pub(crate) text: Vec<u8>,
+    pub(crate) answered: bool,
     pub(crate) moved: bool,
 }
 
@@ -46,14 +47,29 @@ pub(crate) fn tell_line(
     match answer_line(rt, alloc, catalog, pool, pass, line) {
         Ok(outcome) => {
             let text = line_text(alloc, &outcome);
+            let answered = is_answer(&outcome.outcome);
             let moved = is_moved(&outcome.outcome);
             drop(outcome);
             match text {
-                Ok(text) => Ok(Told { text, moved }),
+                Ok(text) => Ok(Told {
+                    text,
+                    answered,
+                    moved,
+                }),
                 Err(_) => Err(source_node::Refusal::NoMemory),
             }
         }
         Err(_) => Err(source_node::Refusal::NoMemory),
+    }
+}
+
+/// Whether an outcome is an answer.
+fn is_answer(outcome: &Outcome) -> bool
+    ensures { result ≡ is_answer outcome.now }
+{
+    match outcome {
+        Outcome::Answered(_) => true,
+        Outcome::Refused(_) => false,
     }
 }
 

@@ -89,6 +89,7 @@ impl Opened {
         ensures admits { IfOk result (Admits (line_over (view_in self.now) line bytes.now)) }
         ensures sources { (holds : List Hold) → All (IsThere holds) self.now.entries → IfOk result (HasSources holds) }
     {
+        // Serves the prover alone: a field that is read shows the invariant.
         let _ = &self.catalog;
         admit(alloc, self, line, bytes)
     }

@@ -9,7 +9,7 @@ ghost use Rattle.query_server.specs.Serving.{KeepsSources};
 use super::opened::OpenedEntry;
 use fetcher::Slot;
 use limits::{MAX_OBJECTS, Memory};
-use source_api::{Source, Trouble};
+use source_api::{FailKind, Source, Trouble};
 use std::alloc::Global;
 
 /// What becomes of a list whose source states so many objects at a version.
@@ -36,10 +36,10 @@ fn ask_again<S: Source>(alloc: Global, source: &mut S, number: u32) -> Result<Op
 {
     match source.size(alloc) {
         Ok(size) => Ok(entry_of(size, number, source.version())),
-        Err(Trouble::Failed) => Ok(OpenedEntry::NotOpened),
-        Err(Trouble::Garbled) => Ok(OpenedEntry::NotOpened),
+        Err(Trouble::Fail(FailKind::Failed)) => Ok(OpenedEntry::NotOpened),
+        Err(Trouble::Fail(FailKind::Garbled)) => Ok(OpenedEntry::NotOpened),
         Err(Trouble::Moved { .. }) => Ok(OpenedEntry::NotOpened),
-        Err(Trouble::Memory) => Err(Memory),
+        Err(Trouble::Fail(FailKind::Memory)) => Err(Memory),
     }
 }
 

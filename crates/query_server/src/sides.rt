@@ -4,8 +4,10 @@ ghost use Rattle.std.specs.Prelude.{◌≡◌, All};
 ghost use Rattle.limits.specs.Ranges.{AreSettings};
 ghost use Rattle.fetcher.specs.Metering.{nothing};
 ghost use Rattle.batch_run.specs.Slots.{HasFeeder, AllFetch};
-ghost use Rattle.query_server.specs.Entries.{MayAnswer};
+ghost use Rattle.query_server.specs.Entries.{view_in, MayAnswer};
+ghost use Rattle.query_server.specs.Answers.{Remembers};
 
+use super::answers::Answers;
 use super::conn::serve_conn;
 use super::fetching::fetch_all;
 use super::opened::Opened;
@@ -28,20 +30,23 @@ fn serve_link<L: Link + Send + Drop>(
     catalog: &Opened,
     pool: &Pool,
     pass: &mut PoolPass,
+    answers: &mut Answers,
     queue: &LinkQueue<L>,
     mut link: L,
 )
-    requires { MayAnswer catalog.now pool.now pass.old }
-    ensures { MayAnswer catalog.now pool.now pass.new }
+    requires fit { MayAnswer catalog.now pool.now pass.old }
+    requires remembers { Remembers (view_in catalog.now) pass.old answers.old }
+    ensures fit { MayAnswer catalog.now pool.now pass.new }
+    ensures remembers { Remembers (view_in catalog.now) pass.new answers.new }
 {
-    let turn = serve_conn(rt, alloc, catalog, pool, pass, &mut link);
+    let turn = serve_conn(rt, alloc, catalog, pool, pass, answers, &mut link);
     if turn.moved {
         queue.pause(rt);
     }
     drop(link);
 }
 
-/// A worker serves links, one after another, until there are none to take.
+/// A worker serves links, one after another, until there are none to take. Meanwhile it remembers its last answers.
 fn serve_links<L: Link + Send + Drop>(
     rt: &impl Wait,
     alloc: Global,
@@ -53,11 +58,13 @@ fn serve_links<L: Link + Send + Drop>(
     requires { MayAnswer catalog.now pool.now worker.old.pass }
     ensures { MayAnswer catalog.now pool.now worker.new.pass }
 {
+    let mut answers = Answers::make(alloc);
     for _ in rt.forever() {
         let Some(link) = queue.take(rt) else {
             return;
         };
-        serve_link(rt, alloc, catalog, pool, &mut worker.pass, queue, link);
+        let pass = &mut worker.pass;
+        serve_link(rt, alloc, catalog, pool, pass, &mut answers, queue, link);
     }
 }
 

@@ -1,4 +1,4 @@
--- The two lists have sources of their own.
+-- The lists that are open have sources of their own.
 pub mod HomeLaws
 -- Lemmas on the four lists and their pool.
 mod Answering

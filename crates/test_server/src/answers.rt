@@ -1,7 +1,8 @@
 //! Query lines that come to an outcome.
 
 use super::none_is_wrong;
-use super::server_visits::{CLOSE, NO_QUERY, OK, Parts, first_other};
+use super::server_visits::{NO_QUERY, first_other};
+use super::visits::{CLOSE, OK, Parts};
 
 /// The end of a head.
 const END: &[u8] = b" HTTP/1.1\r\nHost: h\r\n\r\n";

@@ -1,25 +1,21 @@
-//! Two lists of three objects in memory, a server over them, and links whose replies are kept.
+//! A server over the lists A and B in memory, and links whose replies are kept.
 
 ghost use Rattle.std.specs.Prelude.{◌≡◌, ◌≤◌, ◌<◌, ℕ, None, All, length, map, IfSome};
 ghost use Rattle.tk_io.specs.LinksInMemory.{IsUnused};
 ghost use Rattle.query_server.specs.Homes.{AreHomes, home_of};
-ghost use Rattle.test_server.specs.Two.{two_entries};
+ghost use Rattle.test_server.specs.Four.{four_entries};
 
-use catalog_text::read_catalog;
+use super::desk::open_lists;
+use super::visits::{Parts, joined};
 use fetcher::Slot;
 use limits::Settings;
-use query_server::{Opened, OpenedEntry, Served, serve_all};
+use query_server::{Served, serve_all};
 use source_api::Source;
 use std::alloc::Global;
 use std::sync::{OnceLock, Wait};
 use std::thread::Threads;
 use test_mem_source::{Held, Kind, MemSource, source_of};
 use tk_io::{MemLink, Port, Share};
-
-/// The parts of a message, one after another.
-pub(crate) type Parts = &'static [&'static [u8]];
-
-const CATALOG: &[u8] = b"name,place,random\nA,a,yes\nB,b,yes\n";
 
 /// The list A at version 7, which differs so from an honest one.
 pub(crate) const fn list_a(kind: Kind) -> Held {
@@ -36,31 +32,8 @@ const B: Held = Held {
     kind: Kind::Honest,
 };
 
-/// The front of a reply with an outcome, and the end of each head.
-pub(crate) const OK: &[u8] = b"HTTP/1.1 200 OK\r\nContent-Type: text/plain\r\n";
-
-pub(crate) const CLOSE: &[u8] = b"Connection: close\r\n\r\n";
-
-/// A request with a line of no bytes, and its reply.
+/// A request with a line of no bytes.
 pub(crate) const ASKS_NOTHING: Parts = &[b"GET /top?q= HTTP/1.1\r\nHost: h\r\n\r\n"];
-
-pub(crate) const NO_QUERY: Parts = &[
-    OK,
-    b"Content-Length: 19\r\n",
-    CLOSE,
-    b"refused 1 Syntax 0\n",
-];
-
-/// The bytes of the parts. None without memory.
-pub(crate) fn joined(alloc: Global, parts: &[&[u8]]) -> Option<Vec<u8>> {
-    let mut bytes = Vec::new(alloc);
-    for part in parts {
-        let Ok(()) = bytes.extend_from_slice(part) else {
-            return None;
-        };
-    }
-    Some(bytes)
-}
 
 /// Whether a link that was dropped took the whole of this reply.
 pub(crate) fn took(alloc: Global, share: &Share, reply: &[&[u8]]) -> Option<bool> {
@@ -95,45 +68,6 @@ pub(crate) fn link_of(
     Some(link)
 }
 
-/// What became of the sources: both have three objects, that of A at version 7.
-fn two_entries(alloc: Global) -> Option<Vec<OpenedEntry>>
-    ensures { IfSome result (λ entries. entries.items ≡ two_entries) }
-{
-    let Ok(mut entries) = Vec::with_capacity(alloc, 2) else {
-        return None;
-    };
-    entries.push_reserved(OpenedEntry::Opened {
-        count: 3,
-        source: 0,
-        version: 7,
-    });
-    entries.push_reserved(OpenedEntry::Opened {
-        count: 3,
-        source: 1,
-        version: 0,
-    });
-    Some(entries)
-}
-
-/// The lists with what became of their sources. None without memory.
-fn open_lists(alloc: Global) -> Option<Opened>
-    ensures { IfSome result (λ opened. opened.entries ≡ two_entries) }
-{
-    let Ok(catalog) = read_catalog(alloc, CATALOG) else {
-        return None;
-    };
-    let Some(entries) = two_entries(alloc) else {
-        drop(catalog);
-        return None;
-    };
-    if catalog.len() != 2 {
-        drop(entries);
-        drop(catalog);
-        return None;
-    }
-    Some(Opened::make(catalog, entries))
-}
-
 /// The slot of a source that was asked for its size once. None without memory.
 fn slot_of(alloc: Global, held: &Held) -> Option<Slot<MemSource>>
     ensures { IfSome result (λ slot. slot.feeder ≡ None) }
@@ -159,12 +93,12 @@ fn two_slots(alloc: Global, first: &Held) -> Option<Vec<Slot<MemSource>>>
     Some(slots)
 }
 
-/// The two lists have a source of two each.
+/// The lists that are open have a source of two each.
 fn two_have_homes()
-    ensures { AreHomes 2 (map home_of two_entries) }
+    ensures { AreHomes 2 (map home_of four_entries) }
 {}
 
-/// How a server over both lists ends that has so many workers, reads a row a page and none ahead, and serves at most so many links. None without
+/// How a server over the lists ends that has so many workers, reads a row a page and none ahead, and serves at most so many links. None without
 /// memory.
 pub(crate) fn serve<R: Threads + Wait + Sync, P: Port>(
     rt: &R,

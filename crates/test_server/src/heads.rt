@@ -1,8 +1,7 @@
-//! Requests that are refused by their heads, by the first cause.
+//! Requests to the query server that are refused by their heads, by the first cause.
 
-use super::server_visits::{
-    BAD, NO_HEAD, NO_QUERY, NOT_ALLOWED, NOT_FOUND, Parts, TOO_LARGE, comes_to, first_other,
-};
+use super::server_visits::{NO_QUERY, comes_to, first_other};
+use super::visits::{BAD, NO_HEAD, NOT_ALLOWED, NOT_FOUND, Parts, TOO_LARGE};
 use super::{holds, none_is_wrong};
 use std::alloc::Global;
 use std::sync::Wait;

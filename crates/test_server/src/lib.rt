@@ -1,5 +1,7 @@
-//! Tests of what serves at a port by its public calls, over links and sources in memory: requests to a node and to the query server with their
-//! replies, to the byte; which links are taken; connections at the same time; generations.
+//! Tests of what serves at a port, by its public calls, over links and sources in memory.
+//!
+//! They have requests to a node and to the query server with their replies, to the byte; which links are taken; connections at the same time;
+//! generations.
 #![tactic(auto)]
 
 #[cfg(test)]
@@ -30,6 +32,8 @@ mod ports;
 mod server_visits;
 #[cfg(test)]
 mod together;
+#[cfg(test)]
+mod visits;
 #[cfg(test)]
 mod waiters;
 

@@ -1,7 +1,8 @@
 //! Links that fail.
 
 use super::holds;
-use super::server_visits::{Parts, link_of, serve_link};
+use super::server_visits::serve_link;
+use super::visits::{Parts, link_of};
 use query_server::ConnEnd;
 use std::alloc::Global;
 use std::sync::Wait;

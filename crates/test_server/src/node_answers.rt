@@ -1,7 +1,8 @@
 //! What a node answers of the list A, at each version that it states.
 
-use super::node_visits::{A, CLOSE, FAILED, OK, Parts, replies};
+use super::node_visits::{A, FAILED, OK, replies};
 use super::none_is_wrong;
+use super::visits::{CLOSE, Parts};
 use std::alloc::Global;
 use test_mem_source::{Held, Kind, Move, source_of};
 

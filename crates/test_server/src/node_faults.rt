@@ -1,6 +1,7 @@
 //! Each call of a source, and each read and write of a link, failing in turn.
 
-use super::node_visits::{A, CLOSE, FAILED, OK, Parts, comes_to, joined};
+use super::node_visits::{A, FAILED, OK, comes_to};
+use super::visits::{CLOSE, Parts, joined};
 use super::{holds, none_is_wrong};
 use source_node::{ConnEnd, node_conn};
 use std::alloc::Global;

@@ -1,8 +1,7 @@
-//! Requests that are refused by their heads, by the first cause.
+//! Requests to a node that are refused by their heads, by the first cause.
 
-use super::node_visits::{
-    A, BAD, NO_HEAD, NOT_ALLOWED, NOT_FOUND, Parts, SIZE, TOO_LARGE, comes_to, first_other,
-};
+use super::node_visits::{A, SIZE, comes_to, first_other};
+use super::visits::{BAD, NO_HEAD, NOT_ALLOWED, NOT_FOUND, Parts, TOO_LARGE};
 use super::{holds, none_is_wrong};
 use std::alloc::Global;
 

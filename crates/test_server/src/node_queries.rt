@@ -1,7 +1,8 @@
 //! The numbers of query parts.
 
-use super::node_visits::{BAD, CLOSE, OK, Parts, first_other};
+use super::node_visits::{OK, first_other};
 use super::none_is_wrong;
+use super::visits::{BAD, CLOSE, Parts};
 
 /// The call for a page, the call for a grade, and the end of a head.
 const PAGE: &[u8] = b"GET /lists/A/page?";

@@ -1,12 +1,10 @@
 //! Requests to a node of the list A over a link in memory, and their replies.
 
+use super::visits::{CLOSE, PLAIN, Parts, joined, link_of, status_in};
 use source_node::{ConnEnd, node_conn};
 use std::alloc::Global;
 use test_mem_source::{Held, Kind, MemSource, source_of};
 use tk_io::MemLink;
-
-/// The parts of a message, one after another.
-pub(crate) type Parts = &'static [&'static [u8]];
 
 /// The rows of the list A, at version 0.
 pub(crate) const A: Held = Held {
@@ -15,53 +13,10 @@ pub(crate) const A: Held = Held {
     kind: Kind::Honest,
 };
 
-/// The front of a reply with an answer, a line of the other replies, and the end of each head.
+/// The front of a reply with an answer.
 pub(crate) const OK: &[u8] = b"HTTP/1.1 200 OK\r\nContent-Type: application/json\r\n";
 
-const PLAIN: &[u8] = b"Content-Type: text/plain\r\n";
-
-pub(crate) const CLOSE: &[u8] = b"Connection: close\r\n\r\n";
-
-/// The replies that say why there is no answer.
-pub(crate) const BAD: Parts = &[
-    b"HTTP/1.1 400 Bad Request\r\n",
-    PLAIN,
-    b"Content-Length: 12\r\n",
-    CLOSE,
-    b"Bad Request\n",
-];
-
-pub(crate) const NOT_FOUND: Parts = &[
-    b"HTTP/1.1 404 Not Found\r\n",
-    PLAIN,
-    b"Content-Length: 10\r\n",
-    CLOSE,
-    b"Not Found\n",
-];
-
-pub(crate) const NOT_ALLOWED: Parts = &[
-    b"HTTP/1.1 405 Method Not Allowed\r\n",
-    PLAIN,
-    b"Allow: GET\r\nContent-Length: 19\r\n",
-    CLOSE,
-    b"Method Not Allowed\n",
-];
-
-pub(crate) const NO_HEAD: Parts = &[
-    b"HTTP/1.1 405 Method Not Allowed\r\n",
-    PLAIN,
-    b"Allow: GET\r\n",
-    CLOSE,
-];
-
-pub(crate) const TOO_LARGE: Parts = &[
-    b"HTTP/1.1 431 Request Header Fields Too Large\r\n",
-    PLAIN,
-    b"Content-Length: 32\r\n",
-    CLOSE,
-    b"Request Header Fields Too Large\n",
-];
-
+/// The reply where a call of the source failed.
 pub(crate) const FAILED: Parts = &[
     b"HTTP/1.1 500 Internal Server Error\r\n",
     PLAIN,
@@ -72,43 +27,6 @@ pub(crate) const FAILED: Parts = &[
 
 /// The reply that says how many rows A has.
 pub(crate) const SIZE: Parts = &[OK, b"Content-Length: 11\r\n", CLOSE, b"{\"count\":3}"];
-
-/// The bytes of the parts, or None where no memory was left.
-pub(crate) fn joined(alloc: Global, parts: &[&[u8]]) -> Option<Vec<u8>> {
-    let mut bytes = Vec::new(alloc);
-    for part in parts {
-        let Ok(()) = bytes.extend_from_slice(part) else {
-            return None;
-        };
-    }
-    Some(bytes)
-}
-
-/// A link that gives these parts, so many bytes in one read, and has room for any reply.
-fn link_of(alloc: Global, parts: &[&[u8]], piece: u32) -> Option<MemLink> {
-    let bytes = joined(alloc, parts)?;
-    MemLink::make(alloc, &bytes, piece.max(1), 1_000, &[], &[], None).ok()
-}
-
-/// The statuses, by how a reply begins.
-static STATUSES: &[(&[u8], u16)] = &[
-    (b"HTTP/1.1 200 ", 200),
-    (b"HTTP/1.1 400 ", 400),
-    (b"HTTP/1.1 404 ", 404),
-    (b"HTTP/1.1 405 ", 405),
-    (b"HTTP/1.1 431 ", 431),
-    (b"HTTP/1.1 500 ", 500),
-];
-
-/// The status that stands in a reply.
-fn status_in(reply: &[u8]) -> Option<u16> {
-    for (front, status) in STATUSES {
-        if reply.starts_with(front) {
-            return Some(*status);
-        }
-    }
-    None
-}
 
 /// Whether a connection ended with the reply of these parts and its status.
 fn is_reply(alloc: Global, end: ConnEnd, link: &MemLink, parts: &[&[u8]]) -> bool {
@@ -135,7 +53,7 @@ pub(crate) fn replies(
     piece: u32,
     reply: &[&[u8]],
 ) -> bool {
-    let Some(mut link) = link_of(alloc, request, piece) else {
+    let Some(mut link) = link_of(alloc, request, piece, &[], &[]) else {
         return false;
     };
     let end = node_conn(alloc, "A", version, source, &mut link);

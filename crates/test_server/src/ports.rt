@@ -3,8 +3,9 @@
 ghost use Rattle.std.specs.Prelude.{All, IfSome};
 ghost use Rattle.tk_io.specs.LinksInMemory.{IsUnused};
 
-use super::hall::{ASKS_NOTHING, NO_QUERY, link_of, new_share, serve, took};
+use super::hall::{ASKS_NOTHING, link_of, new_share, serve, took};
 use super::holds_with_memory;
+use super::server_visits::NO_QUERY;
 use query_server::Served;
 use std::alloc::Global;
 use std::sync::Wait;

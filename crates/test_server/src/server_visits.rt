@@ -5,8 +5,9 @@ ghost use Rattle.source_pool.specs.Passes.{IsIdleOf};
 ghost use Rattle.query_server.specs.Entries.{MayAnswer};
 
 use super::desk::{open_lists, opened_may_answer};
+use super::visits::{CLOSE, OK, Parts, joined, link_of, status_in};
 use fetcher::Stop;
-use query_server::{ConnEnd, Opened, Turn, serve_conn};
+use query_server::{Answers, ConnEnd, Opened, Turn, serve_conn};
 use source_pool::{Feeder, Pool, PoolPass};
 use std::alloc::Global;
 use std::sync::Wait;
@@ -14,9 +15,6 @@ use std::thread::{Threads, join_mut};
 use test_mem_source::{Held, Kind, MemSource, source_of};
 use test_query_support::{Pair, fetch_till_set};
 use tk_io::MemLink;
-
-/// The parts of a message, one after another.
-pub(crate) type Parts = &'static [&'static [u8]];
 
 /// Two lists of three objects.
 const A: Held = Held {
@@ -31,53 +29,6 @@ const B: Held = Held {
     kind: Kind::Honest,
 };
 
-/// The fronts of replies, and the end of each head.
-pub(crate) const OK: &[u8] = b"HTTP/1.1 200 OK\r\nContent-Type: text/plain\r\n";
-
-const PLAIN: &[u8] = b"Content-Type: text/plain\r\n";
-
-pub(crate) const CLOSE: &[u8] = b"Connection: close\r\n\r\n";
-
-/// The replies that say why there is no outcome.
-pub(crate) const BAD: Parts = &[
-    b"HTTP/1.1 400 Bad Request\r\n",
-    PLAIN,
-    b"Content-Length: 12\r\n",
-    CLOSE,
-    b"Bad Request\n",
-];
-
-pub(crate) const NOT_FOUND: Parts = &[
-    b"HTTP/1.1 404 Not Found\r\n",
-    PLAIN,
-    b"Content-Length: 10\r\n",
-    CLOSE,
-    b"Not Found\n",
-];
-
-pub(crate) const NOT_ALLOWED: Parts = &[
-    b"HTTP/1.1 405 Method Not Allowed\r\n",
-    PLAIN,
-    b"Allow: GET\r\nContent-Length: 19\r\n",
-    CLOSE,
-    b"Method Not Allowed\n",
-];
-
-pub(crate) const NO_HEAD: Parts = &[
-    b"HTTP/1.1 405 Method Not Allowed\r\n",
-    PLAIN,
-    b"Allow: GET\r\n",
-    CLOSE,
-];
-
-pub(crate) const TOO_LARGE: Parts = &[
-    b"HTTP/1.1 431 Request Header Fields Too Large\r\n",
-    PLAIN,
-    b"Content-Length: 32\r\n",
-    CLOSE,
-    b"Request Header Fields Too Large\n",
-];
-
 /// The reply to a line of no bytes.
 pub(crate) const NO_QUERY: Parts = &[
     OK,
@@ -85,57 +36,6 @@ pub(crate) const NO_QUERY: Parts = &[
     CLOSE,
     b"refused 1 Syntax 0\n",
 ];
-
-/// The bytes of the parts, or None where no memory was left.
-fn joined(alloc: Global, parts: &[&[u8]]) -> Option<Vec<u8>> {
-    let mut bytes = Vec::new(alloc);
-    for part in parts {
-        let Ok(()) = bytes.extend_from_slice(part) else {
-            return None;
-        };
-    }
-    Some(bytes)
-}
-
-/// A link that gives these parts, so many bytes in one read, has room for any reply, and fails these of its reads and writes.
-pub(crate) fn link_of(
-    alloc: Global,
-    parts: &[&[u8]],
-    piece: u32,
-    read_fails: &[u64],
-    write_fails: &[u64],
-) -> Option<MemLink> {
-    let bytes = joined(alloc, parts)?;
-    MemLink::make(
-        alloc,
-        &bytes,
-        piece.max(1),
-        2_000,
-        read_fails,
-        write_fails,
-        None,
-    )
-    .ok()
-}
-
-/// The statuses, by how a reply begins.
-static STATUSES: &[(&[u8], u16)] = &[
-    (b"HTTP/1.1 200 ", 200),
-    (b"HTTP/1.1 400 ", 400),
-    (b"HTTP/1.1 404 ", 404),
-    (b"HTTP/1.1 405 ", 405),
-    (b"HTTP/1.1 431 ", 431),
-];
-
-/// The status that stands in a reply.
-fn status_in(reply: &[u8]) -> Option<u16> {
-    for (front, status) in STATUSES {
-        if reply.starts_with(front) {
-            return Some(*status);
-        }
-    }
-    None
-}
 
 /// Whether a connection ended with the reply of these parts and its status, and nothing moved.
 fn is_reply(alloc: Global, turn: Turn, link: &MemLink, parts: &[&[u8]]) -> bool {
@@ -165,7 +65,9 @@ fn answer(
 )
     requires { MayAnswer lists.now pool.now pass.old }
 {
-    *turn = Some(serve_conn(rt, alloc, lists, pool, pass, link));
+    let mut answers = Answers::make(alloc);
+    *turn = Some(serve_conn(rt, alloc, lists, pool, pass, &mut answers, link));
+    drop(answers);
     stop.set(pool);
 }
 

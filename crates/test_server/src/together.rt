@@ -1,7 +1,8 @@
 //! Two connections at the same time, one of which can't go on before the other has ended.
 
-use super::hall::{ASKS_NOTHING, NO_QUERY, link_of, new_share, serve, took};
+use super::hall::{ASKS_NOTHING, link_of, new_share, serve, took};
 use super::holds_with_memory;
+use super::server_visits::NO_QUERY;
 use super::waiters::{WaiterPort, Waits};
 use query_server::Served;
 use std::alloc::Global;

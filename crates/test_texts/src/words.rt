@@ -1,9 +1,19 @@
 //! The rows of the grammar of words, and what a process gives.
 
-use command_words::{Command, Words, WordsFault, read_command, read_words};
+use command_words::{Command, ServeOptions, Words, WordsFault, read_command, read_words};
 use std::alloc::Global;
 use std::env::{Env, FillError};
 use test_support::words_of;
+
+/// The numbers of a server.
+#[derive(Clone, Copy)]
+struct Numbers {
+    at: u16,
+    conns: u64,
+    workers: u32,
+    page: u32,
+    ahead: u32,
+}
 
 /// What words are read as.
 #[derive(Clone, Copy)]
@@ -11,7 +21,20 @@ enum Told {
     One,
     Judge,
     Compare,
+    /// A server over the catalog `c.csv`.
+    Serve(Numbers),
     BadWords,
+}
+
+/// Whether a server is over the catalog `c.csv` and has these numbers.
+fn serves(options: &ServeOptions, numbers: Numbers) -> bool {
+    let is_there = options.catalog.as_str() == "c.csv" && options.listening.at == numbers.at;
+    let settings = options.settings;
+    is_there
+        && options.listening.conns == numbers.conns
+        && settings.workers == numbers.workers
+        && settings.page == numbers.page
+        && settings.ahead == numbers.ahead
 }
 
 /// Whether this came of words.
@@ -21,6 +44,7 @@ fn is_told(command: &Result<Command, WordsFault>, told: Told) -> bool {
         | (Ok(Command::Judge), Told::Judge)
         | (Ok(Command::Compare), Told::Compare)
         | (Err(WordsFault::BadWords), Told::BadWords) => true,
+        (Ok(Command::Serve(options)), Told::Serve(numbers)) => serves(options, numbers),
         _ => false,
     }
 }
@@ -74,6 +98,98 @@ const ROWS: &[Row] = &[
     ),
 ];
 
+/// The words of a server: what stands where nothing is said, the least and the greatest numbers, and what is refused.
+const SERVES: &[Row] = &[
+    (
+        &["serve", "c.csv", "--at", "8080"],
+        Told::Serve(Numbers {
+            at: 8080,
+            conns: 1_000_000,
+            workers: 4,
+            page: 100,
+            ahead: 2,
+        }),
+    ),
+    (
+        &[
+            "serve",
+            "--ahead=0",
+            "--page=1",
+            "--workers=1",
+            "--conns=1",
+            "--at=1",
+            "c.csv",
+        ],
+        Told::Serve(Numbers {
+            at: 1,
+            conns: 1,
+            workers: 1,
+            page: 1,
+            ahead: 0,
+        }),
+    ),
+    (
+        &[
+            "serve",
+            "--at=65535",
+            "--conns=1000000",
+            "--workers=32",
+            "--page=10000",
+            "--ahead=100",
+            "--",
+            "c.csv",
+        ],
+        Told::Serve(Numbers {
+            at: 65_535,
+            conns: 1_000_000,
+            workers: 32,
+            page: 10_000,
+            ahead: 100,
+        }),
+    ),
+    (&["serve"], Told::BadWords),
+    (&["serve", "c.csv"], Told::BadWords),
+    (&["serve", "--at=8080"], Told::BadWords),
+    (&["serve", "c.csv", "--at"], Told::BadWords),
+    (&["serve", "c.csv", "--at=0"], Told::BadWords),
+    (&["serve", "c.csv", "--at=65536"], Told::BadWords),
+    (
+        &["serve", "c.csv", "--at=8080", "--at=8080"],
+        Told::BadWords,
+    ),
+    (&["serve", "c.csv", "A", "--at=8080"], Told::BadWords),
+    (
+        &["serve", "c.csv", "--at=8080", "--conns=0"],
+        Told::BadWords,
+    ),
+    (
+        &["serve", "c.csv", "--at=8080", "--conns=1000001"],
+        Told::BadWords,
+    ),
+    (
+        &["serve", "c.csv", "--at=8080", "--workers=0"],
+        Told::BadWords,
+    ),
+    (
+        &["serve", "c.csv", "--at=8080", "--workers=33"],
+        Told::BadWords,
+    ),
+    (&["serve", "c.csv", "--at=8080", "--page=0"], Told::BadWords),
+    (
+        &["serve", "c.csv", "--at=8080", "--page=10001"],
+        Told::BadWords,
+    ),
+    (
+        &["serve", "c.csv", "--at=8080", "--ahead=101"],
+        Told::BadWords,
+    ),
+    (
+        &["serve", "c.csv", "--at=8080", "--version=1"],
+        Told::BadWords,
+    ),
+    (&["Serve", "c.csv", "--at=8080"], Told::BadWords),
+];
+
 /// The number of the first row that is read otherwise.
 fn first_wrong(alloc: Global, rows: &[Row]) -> Option<usize> {
     for (number, (words, told)) in rows.iter().enumerate() {
@@ -87,6 +203,11 @@ fn first_wrong(alloc: Global, rows: &[Row]) -> Option<usize> {
 #[test]
 fn reads_commands_and_refuses_words(rt: HostRuntime) {
     assert_eq!(rt; first_wrong(rt.alloc(), ROWS), None);
+}
+
+#[test]
+fn reads_the_words_of_a_server(rt: HostRuntime) {
+    assert_eq!(rt; first_wrong(rt.alloc(), SERVES), None);
 }
 
 /// A process whose own name isn't UTF-8, with these words.

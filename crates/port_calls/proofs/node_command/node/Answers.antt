@@ -1,5 +1,6 @@
-use Rattle.std.proofs.Common.{inl, refl, arith}
+use Rattle.std.proofs.Common.{inl, refl, ap, ◌∙◌, arith}
 use Rattle.std.proofs.KnownBytes.{Keeps-refl}
+use Rattle.source_api.specs.declared.source.Trouble.TheVariants.{Fail}
 use Rattle.call_ends.specs.Calls.{Call, output_as, shelf_as, outside_of, call_at}
 use Rattle.call_ends.specs.Shelves.{Shelf, GivesText}
 use Rattle.call_ends.proofs.Ending.{shelf_at}
@@ -21,14 +22,14 @@ returns-in-Ok-clause-ends g c = λ words input.
     ends_on c.args.options.now call (ports_of g.P.Port.links g.P.Port.closed g.P.Port.faults (c.args.port.now, c.node_over.new.port)) c.node_over.result
     (c.in-Ok.text.items, given, gives, c.node_over.ensures.ends words input)
 
-pub returns-in-Err-Failed-clause-ends : goal.returns-in-Err-Failed-clause-ends
-returns-in-Err-Failed-clause-ends g c = λ words input.
+pub returns-in-Err-Fail-Failed-clause-ends : goal.returns-in-Err-Fail-Failed-clause-ends
+returns-in-Err-Fail-Failed-clause-ends g c = λ words input.
     let before : Shelf = shelf_at (g.H.Shelf.texts c.args.shelf.now) (g.H.Shelf.lists c.args.shelf.now) (g.H.Shelf.versions c.args.shelf.now) (g.H.Shelf.at c.args.shelf.now) in
     let given : Shelf = shelf_at (g.H.Shelf.texts c.text.new.self) (g.H.Shelf.lists c.text.new.self) (g.H.Shelf.versions c.text.new.self) (g.H.Shelf.at c.text.new.self) in
     inl (
-      text_failed c.args.options.now.catalog c.as_str.result.now before given c.in-Err-Failed.field-0 c.in-Err-Failed.field-0-is c.as_str.ensures
+      text_failed c.args.options.now.catalog c.as_str.result.now before given c.in-Err-Fail-Failed.field-0 (c.in-Err-Fail-Failed.field-0-is ∙ ap Fail (rw c.in-Err-Fail-Failed.field-0-is at c.in-Err-Fail-Failed.field-0-0-is)) c.as_str.ensures
           (asks_text c.args.options.now.catalog c.as_str.result.now before given c.as_str.ensures c.text.ensures.texts c.text.ensures.lists c.text.ensures.versions c.text.ensures.elsewhere c.text.ensures.counts)
-          c.in-Err-Failed.ensures.cause,
+          c.in-Err-Fail-Failed.ensures.cause,
       refl,
       record { held = Keeps-refl (g.K.Sink.held c.args.out.now); faults = refl },
     )

@@ -29,6 +29,7 @@ returns-in_default g c =
       once = tt;
       few_asks = λ place. few_none (marked_at catalog (every catalog) place) (at place) (at place) refl;
       entries = tt;
+      became = tt;
       homes = tt;
     }
 
@@ -49,6 +50,7 @@ returns-in-Err g c =
       once = tt;
       few_asks = subst (λ ms. AsksEachAtMostOnce catalog ms (g.H.Shelf.at c.args.shelf.now) (g.H.Shelf.at w.new.shelf)) are w.ensures.few_asks;
       entries = tt;
+      became = tt;
       homes = tt;
     }
 
@@ -72,6 +74,7 @@ returns-in-Ok-opening g c =
           (subst (λ ms. AsksEachOnce catalog ms (g.H.Shelf.at c.args.shelf.now) (g.H.Shelf.at w.new.shelf)) are c.in-Ok-opening.ensures.once);
       few_asks = subst (λ ms. AsksEachAtMostOnce catalog ms (g.H.Shelf.at c.args.shelf.now) (g.H.Shelf.at w.new.shelf)) are w.ensures.few_asks;
       entries = if_so c.entries_of.result _ _ c.entries_of.ensures (λ entries is. are_entries catalog openings entries.items (is ∙ ap (map entry_of) c.deref-in-Ok-opening.ensures.value) c.in-Ok-opening.ensures.all);
+      became = if_so c.entries_of.result _ _ c.entries_of.ensures (λ entries is. is ∙ ap (map entry_of) c.deref-in-Ok-opening.ensures.value);
       homes = if_so c.entries_of.result _ _ c.entries_of.ensures
           (λ entries is. are_homes (g.H.Shelf.lists c.args.shelf.now) (g.H.Shelf.versions c.args.shelf.now) catalog _ (g.H.Shelf.at c.args.shelf.now) (g.H.Shelf.at w.new.shelf) openings _ (length w.new.slots.items) entries.items (is ∙ ap (map entry_of) c.deref-in-Ok-opening.ensures.value) many w.ensures.opened);
     }

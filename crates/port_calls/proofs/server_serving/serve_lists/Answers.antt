@@ -19,6 +19,15 @@ returns-in-Ok g c =
     (borrows_from g.H.Item.Source.counts c.args.catalog c.catalog-in-Ok.result.now before mid after c.open_all.new.opened.openings.items _ c.deref.result.now _ same c.deref.ensures.value
     o.texts o.lists o.versions b.texts b.lists b.versions o.opened o.few_asks b.moves b.others (c.serve_at-served.ensures.many ∙ o.many))
     c.in-Ok.ensures.once b.moves)
+    (record {
+      then_counted = mid.at;
+      openings = c.open_all.new.opened.openings.items;
+      sources = _;
+      opened = o.opened;
+      entries = c.in-Ok.entries.items;
+      many = c.in-Ok.ensures.entries.many;
+      became = c.in-Ok.ensures.became;
+    })
     c.serve_at-served.ensures.serves c.serve_at-served.ensures.closed
 
 pub returns-in-Err : goal.returns-in-Err

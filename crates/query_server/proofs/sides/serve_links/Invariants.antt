@@ -1,5 +1,9 @@
-use Rattle.query_server.specs.Entries.{MayAnswer}
+use Rattle.query_server.specs.Entries.{view_in, MayAnswer}
+use Rattle.query_server.specs.Answers.{Remembers}
 use Rattle.query_server.proofs.sides.serve_links.Given as goal
 
 abbrev pub invariant-loop : goal.invariant-loop
-invariant-loop g l = MayAnswer l.catalog l.pool l.worker.pass
+invariant-loop g l = record {
+  fit : MayAnswer l.catalog l.pool l.worker.pass;
+  remembers : Remembers (view_in l.catalog) l.worker.pass l.answers;
+}
