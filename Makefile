@@ -41,7 +41,8 @@ try-run:
 	cd crates/topk && rt try $(foreach list,price rating centre quiet,--data hotels/$(list).csv=data/hotels/$(list).csv) \
 		--data catalog.csv=data/catalog.csv -- run catalog.csv < stdin; test $$? -eq 1
 
-# The gate, and then the program that it built, as a process with words, streams and files, and the library, which it proved.
+# What `.ci/run` does, with the library built in between, so that its tests run too: the gate, and the program that it built, as a process with
+# words, streams, files, hosts and peers.
 test:
 	rt ci
 	cd crates/topk_c && rt lib

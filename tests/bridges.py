@@ -10,6 +10,7 @@ import concurrent.futures
 import contextlib
 import functools
 import json
+import math
 import os
 import pathlib
 import pwd
@@ -25,7 +26,8 @@ import time
 from collections.abc import Callable, Iterable, Iterator
 from typing import Any, Protocol
 
-from special import SECONDS, Skipped
+from machine import SECONDS, Skipped, needs, no_memory, no_room, over_network, peer
+from nodes import received
 
 EXAMPLES = pathlib.Path(__file__).resolve().parent.parent / "examples"
 BRIDGES = EXAMPLES / "bridges"
@@ -105,7 +107,9 @@ class Sqlite:
     def __init__(self, place: str) -> None:
         self.path = os.path.join(place, "a b%20?#.db")
         self.words = (sys.executable, str(BRIDGES / "sqlite.py"), self.path)
-        self.do("pragma journal_mode = wal")
+        with contextlib.closing(sqlite3.connect(self.path, timeout=SECONDS)) as connection:
+            if sqlite3.sqlite_version_info < (3, 15) or connection.execute("pragma journal_mode = wal").fetchone() != ("wal",):
+                raise Skipped(f"SQLite {sqlite3.sqlite_version} keeps no log beside a file here")
 
     def do(self, script: str) -> None:
         with contextlib.closing(sqlite3.connect(self.path, timeout=SECONDS)) as connection:
@@ -130,15 +134,18 @@ class Cluster:
         self.python = next(filter(has_psycopg2, dict.fromkeys((sys.executable, "/usr/bin/python3"))), None)
         if self.python is None:
             raise Skipped("there is no psycopg2")
+        needs(no_room(400))
         self._folder = tempfile.TemporaryDirectory()
         self.place = self._folder.name
         self._as: dict[str, Any] = {}
         if os.geteuid() == 0:
-            user = next(it for it in pwd.getpwall() if it.pw_name in ("postgres", "nobody"))
+            user = next((it for it in pwd.getpwall() if it.pw_name in ("postgres", "nobody")), None)
+            if user is None:
+                raise Skipped("there is no user postgres, and no nobody")
             os.chown(self.place, user.pw_uid, user.pw_gid)
             self._as = {"user": user.pw_uid, "group": user.pw_gid, "extra_groups": []}
-        self._run("initdb", "-D", "data", "-U", "topk", "-A", "trust", "-E", "UTF8", "--locale=C", "--no-sync")
         atexit.register(self._stop)
+        self._run("initdb", "-D", "data", "-U", "topk", "-A", "trust", "-E", "UTF8", "--locale=C", "--no-sync")
         self._run("pg_ctl", "-D", "data", "-l", "log", "-w", "-t", str(SECONDS), "-o", f"-k {self.place} -c listen_addresses= -F", "start")
         self.bases = 0
 
@@ -148,11 +155,11 @@ class Cluster:
             raise Skipped(f"{program} ended with {done.returncode}: {done.stderr[-300:]!r}")
 
     def _ended(self, program: str, *words: str) -> subprocess.CompletedProcess[bytes]:
-        return subprocess.run([self._programs / program, *words], cwd=self.place, stdout=subprocess.DEVNULL, stderr=subprocess.PIPE, timeout=SECONDS,
-                              check=False, **self._as)
+        return peer([self._programs / program, *words], cwd=self.place, stdout=subprocess.DEVNULL, **self._as)
 
     def _stop(self) -> None:
-        self._ended("pg_ctl", "-D", "data", "-m", "immediate", "stop")
+        with contextlib.suppress(Skipped):
+            self._ended("pg_ctl", "-D", "data", "-m", "immediate", "stop")
         self._folder.cleanup()
 
 
@@ -177,7 +184,9 @@ class Postgres:
         self.do(f"copy {quoted(table)} from stdin;\n{text}\\.\nvacuum analyze {quoted(table)};\n")
 
     def forget(self) -> None:
-        self.do("select pg_terminate_backend(pid) from pg_stat_activity where backend_type = 'client backend' and pid <> pg_backend_pid()")
+        others = "pg_stat_activity where backend_type = 'client backend' and pid <> pg_backend_pid()"
+        self.do(f"select pg_terminate_backend(pid) from {others}; do $$ begin while exists (select from {others}) loop "
+                "perform pg_sleep(0.01), pg_stat_clear_snapshot(); end loop; end $$;")
 
 
 def programs(name: str) -> Iterator[pathlib.Path]:
@@ -190,8 +199,7 @@ def programs(name: str) -> Iterator[pathlib.Path]:
 
 def has_psycopg2(python: str) -> bool:
     """Whether a Python is there and has psycopg2."""
-    words = [python, "-c", "import psycopg2"]
-    return os.path.exists(python) and subprocess.run(words, stderr=subprocess.DEVNULL, timeout=SECONDS, check=False).returncode == 0
+    return os.path.exists(python) and peer([python, "-c", "import sys, psycopg2; sys.exit(sys.version_info < (3, 9))"]).returncode == 0
 
 
 def quoted(name: str) -> str:
@@ -202,20 +210,27 @@ def quoted(name: str) -> str:
 @contextlib.contextmanager
 def sqlite() -> Iterator[Base]:
     """A file of its own."""
+    needs(no_room(200))
     with tempfile.TemporaryDirectory() as place:
         yield Sqlite(place)
 
 
 @functools.lru_cache
-def cluster() -> Cluster:
-    """The one cluster of all tests."""
-    return Cluster()
+def cluster() -> Cluster | Skipped:
+    """The one cluster of all tests, or why there is none."""
+    try:
+        return Cluster()
+    except Skipped as why:
+        return why
 
 
 @contextlib.contextmanager
 def postgres() -> Iterator[Base]:
     """A database of its own."""
-    yield Postgres(cluster())
+    found = cluster()
+    if isinstance(found, Skipped):
+        raise found
+    yield Postgres(found)
 
 
 @contextlib.contextmanager
@@ -227,6 +242,7 @@ def node(base: Base, *words: str) -> Iterator[int]:
             late.start()
             try:
                 line = process.stdout.readline()
+                late.cancel()
                 found = re.fullmatch(r"http://127\.0\.0\.1:([0-9]+)/lists/[A-Za-z]+\n", line)
                 if found is None:
                     process.kill()
@@ -241,8 +257,9 @@ def node(base: Base, *words: str) -> Iterator[int]:
 def said(port: int, request: bytes) -> bytes:
     """The whole reply to a request."""
     with socket.create_connection(("127.0.0.1", port), timeout=SECONDS) as link:
-        link.sendall(request)
-        return b"".join(iter(lambda: link.recv(65_536), b""))
+        with contextlib.suppress(ConnectionError):  # A node needn't read a request to its end.
+            link.sendall(request)
+        return received(link)
 
 
 def got(port: int, target: str) -> bytes:
@@ -402,6 +419,7 @@ def changes(base: Base) -> str | None:
 
 def great_list(base: Base) -> str | None:
     """200,000 rows: a page at the end has its rows and comes as fast as one at the front, with grades that differ and with equal ones."""
+    needs(no_memory(500))
     count = 200_000
     grades = [it * 7919 % 1_000_001 for it in range(count)]
     base.do("create table t (object bigint primary key, many integer not null, one integer not null);")
@@ -415,19 +433,22 @@ def great_list(base: Base) -> str | None:
             wrong = first_difference((asked(*it), body(port, asked(*it)), {"rows": rows[it[0]:it[0] + it[1]]}) for it in places)
             if wrong is not None:
                 return wrong
-            front, end = quickest(port, asked(0, 10), asked(199_990, 10))
-            if end > 3 * front:
-                return f"a page of {name} took {front} s at the front and {end} s at the end"
+            if not as_quick(port, asked(199_990, 10), asked(0, 10)):
+                return f"a page of {name} takes more than three times as long at the end as at the front"
     return None
 
 
-def quickest(port: int, *targets: str) -> list[float]:
-    """The least time that a reply to each of these took in 60 rounds."""
-    def once(target: str) -> float:
-        began = time.perf_counter()
-        got(port, target)
-        return time.perf_counter() - began
-    return [min(times) for times in zip(*([once(target) for target in targets] for _ in range(60)))]
+def as_quick(port: int, one: str, other: str) -> bool:
+    """Whether the least time of a reply to one target is at most three times that of the other, over as many rounds as show it, for a minute at most."""
+    least, late = {one: math.inf, other: math.inf}, time.monotonic() + 60
+    while time.monotonic() < late:
+        for target in least:
+            began = time.perf_counter()
+            got(port, target)
+            least[target] = min(least[target], time.perf_counter() - began)
+        if least[one] <= 3 * least[other]:
+            return True
+    return False
 
 
 def clients(base: Base) -> str | None:
@@ -469,11 +490,8 @@ def hotels(base: Base) -> str | None:
 def tests() -> Iterator[tuple[str, Callable[[str], str | None]]]:
     """Each test with its name, for each database."""
     def over(opened: Callable[[], Any], test: Callable[[Base], str | None]) -> str | None:
-        try:
-            with opened() as base:
-                return test(base)
-        except (AssertionError, OSError, sqlite3.Error, subprocess.CalledProcessError) as fault:
-            return f"{type(fault).__name__}: {fault}"
+        with opened() as base:
+            return test(base)
     for opened in (sqlite, postgres):
         for test in (requests, refusals, starts, faults, versions, changes, great_list, clients, hotels):
-            yield f"bridge_{opened.__name__}_{test.__name__}", lambda _, opened=opened, test=test: over(opened, test)
+            yield f"bridge_{opened.__name__}_{test.__name__}", over_network(lambda _, opened=opened, test=test: over(opened, test))

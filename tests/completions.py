@@ -1,16 +1,14 @@
 """Tests of the completions for shells and of where `make install` puts things: the manual page says which commands and options there are."""
+import os
 import pathlib
 import re
-import shutil
-import subprocess
 import tempfile
 
-from special import Skipped
+from machine import Skipped, path_of, peer, scratch
 
 ROOT = pathlib.Path(__file__).resolve().parent.parent
 MANUAL = ROOT / "docs" / "topk.1"
 FOLDER = ROOT / "docs" / "completions"
-SECONDS = 60
 
 # Asks bash what it offers behind `topk` and the words of the command line, of which the last one isn't finished.
 BASH = 'source "$0"; COMP_WORDS=(topk "$@"); COMP_CWORD=$#; _topk; printf "%s\\n" "${COMPREPLY[@]}"'
@@ -23,13 +21,6 @@ words=(topk "$@"); CURRENT=$#words; source $0
 """
 
 FISH = "source $argv[1]; complete -C \"topk $argv[2..-1]\""
-
-
-def needed(name):
-    found = shutil.which(name)
-    if found is None:
-        raise Skipped(f"there is no {name}")
-    return found
 
 
 def manual():
@@ -52,7 +43,8 @@ def commands_of_manual():
 
 def offered(words, *line):
     """What a shell offers at the end of a command line: the first words of the lines that it writes, up to a colon or an equals sign."""
-    done = subprocess.run([*words, *line], capture_output=True, text=True, timeout=SECONDS, check=False)
+    with scratch() as place:  # A shell that has no home of its own may say so, or write there.
+        done = peer([*words, *line], text=True, env=dict(os.environ, HOME=place, XDG_CONFIG_HOME=place, XDG_DATA_HOME=place, TERM="dumb"))
     if done.returncode != 0 or done.stderr:
         raise AssertionError(f"ended with {done.returncode}: {done.stderr[:300]}")
     return {re.split(r"[:=\t]", it)[0] for it in done.stdout.splitlines() if it and not it[0].isdigit()}
@@ -63,9 +55,9 @@ def wrong_offers(words):
     wanted = manual()
     if set(wanted) != commands_of_manual():
         return f"the manual page has {sorted(wanted)} in its synopsis and describes {sorted(commands_of_manual())}"
-    found = offered(words, "")
-    if found != set(wanted):
-        return f"offers the commands {sorted(found)} in place of {sorted(wanted)}"
+    given = offered(words, "")
+    if given != set(wanted):
+        return f"offers the commands {sorted(given)} in place of {sorted(wanted)}"
     for command, options in wanted.items():
         found = {it for it in offered(words, command, "--") if it.startswith("-")}
         if found != options:
@@ -74,15 +66,15 @@ def wrong_offers(words):
 
 
 def bash_completion(_):
-    return wrong_offers([needed("bash"), "-c", BASH, str(FOLDER / "topk.bash")])
+    return wrong_offers([path_of("bash"), "-c", BASH, str(FOLDER / "topk.bash")])
 
 
 def zsh_completion(_):
-    return wrong_offers([needed("zsh"), "-f", "-c", ZSH, str(FOLDER / "_topk")])
+    return wrong_offers([path_of("zsh"), "-f", "-c", ZSH, str(FOLDER / "_topk")])
 
 
 def fish_completion(_):
-    return wrong_offers([needed("fish"), "--no-config", "-c", FISH, str(FOLDER / "topk.fish")])
+    return wrong_offers([path_of("fish"), "--no-config", "-c", FISH, str(FOLDER / "topk.fish")])
 
 
 # How a command and an option stand in each file.
@@ -109,7 +101,7 @@ def completion_texts(_):
 
 def bash_options_once(_):
     """An option is offered once, and nothing where its number is due."""
-    words = [needed("bash"), "-c", BASH, str(FOLDER / "topk.bash")]
+    words = [path_of("bash"), "-c", BASH, str(FOLDER / "topk.bash")]
     found = offered(words, "make", "--start", "7", "--")
     if found != {"--count", "--lists"}:
         return f"offers {sorted(found)} behind --start"
@@ -119,20 +111,20 @@ def bash_options_once(_):
 
 def installed(program):
     """`make install` puts each file in its place below DESTDIR and PREFIX, and `make uninstall` takes each away."""
-    make = needed("make")
+    make, _ = path_of("make"), path_of("install")
     wanted = {"bin/topk", "share/man/man1/topk.1", "share/bash-completion/completions/topk", "share/zsh/site-functions/_topk",
               "share/fish/vendor_completions.d/topk.fish"}
     with tempfile.TemporaryDirectory() as place:
         words = [f"DESTDIR={place}", "PREFIX=/opt/top k", f"PROGRAM={program}"]
         prefix = pathlib.Path(place) / "opt" / "top k"
         for goal, files in (("install", wanted), ("uninstall", set())):
-            done = subprocess.run([make, "-s", "-C", str(ROOT), goal, *words], capture_output=True, text=True, timeout=SECONDS, check=False)
+            done = peer([make, "-s", "-C", str(ROOT), goal, *words], text=True)
             if done.returncode != 0:
                 return f"make {goal} ended with {done.returncode}: {done.stderr[:300]}"
             found = {str(it.relative_to(prefix)) for it in prefix.rglob("*") if it.is_file()}
             if found != files:
                 return f"make {goal} leaves {sorted(found)} in place of {sorted(files)}"
-            if goal == "install" and subprocess.run([prefix / "bin" / "topk"], capture_output=True, timeout=SECONDS, check=False).returncode != 2:
+            if goal == "install" and peer([prefix / "bin" / "topk"]).returncode != 2:
                 return "the installed program doesn't run"
     return None
 

@@ -15,7 +15,8 @@ import threading
 from collections.abc import Callable, Iterator
 
 import bridges
-from special import SECONDS, differs, run, write
+from machine import SECONDS, free_port, over_network
+from special import differs, run, write
 
 DATA = pathlib.Path(__file__).resolve().parent.parent / "crates" / "topk" / "data"
 LISTS = {"A": [(1, 900), (2, 800), (3, 100)], "B": [(2, 700), (3, 600), (1, 500)]}
@@ -92,7 +93,7 @@ def node(reply: Callable[[str, int], bytes]) -> Iterator[tuple[int, list[str]]]:
 
     with socketserver.ThreadingTCPServer(("127.0.0.1", 0), Link) as server:
         server.daemon_threads = True
-        threading.Thread(target=server.serve_forever, daemon=True).start()
+        threading.Thread(target=server.serve_forever, args=(0.01,), daemon=True).start()
         try:
             yield server.server_address[1], targets
         finally:
@@ -152,9 +153,8 @@ def cut(program: str) -> str | None:
 
 def nobody(program: str) -> str | None:
     """Where nobody listens the list isn't opened."""
-    with node(lambda target, number: b"") as (port, targets):
-        pass
-    return differs(run_over(program, port), 1, b"refused 1 NotOpened A\n")
+    with free_port() as port:
+        return differs(run_over(program, port), 1, b"refused 1 NotOpened A\n")
 
 
 def bridge(program: str) -> str | None:
@@ -178,4 +178,4 @@ def bridge(program: str) -> str | None:
 def tests() -> Iterator[tuple[str, Callable[[str], str | None]]]:
     """Each test with its name."""
     for test in (at_versions, requests, moved, replies, cut, nobody, bridge):
-        yield f"hosts_{test.__name__}", test
+        yield f"hosts_{test.__name__}", over_network(test)

@@ -12,7 +12,8 @@ import sys
 import tempfile
 import threading
 
-from special import MAX_INPUT, SECONDS, Skipped, padded_bundle
+from machine import SECONDS, Skipped, needs, no_memory, no_threads, path_of, peer
+from special import LARGEST, MAX_INPUT, padded_bundle
 
 HERE = pathlib.Path(__file__).resolve().parent
 REPOSITORY = HERE.parent
@@ -24,26 +25,28 @@ GUARD = b"\xa5"
 _places, _loaded = [], {}
 
 
-def compiler(*names):
-    for name in names:
-        if shutil.which(name):
-            return name
-    raise Skipped(f"there is no compiler {' or '.join(names)}")
-
-
 def built(heap):
     """The path of the shared library over this heap."""
-    found = compiler("cc", "gcc", "clang")
+    compiler = path_of("cc", "gcc", "clang")
     if not ARCHIVE.exists():
         raise Skipped("there is no proved archive: `make lib` builds it")
     if heap not in _loaded:
         place = tempfile.TemporaryDirectory()
         _places.append(place)
+        compile_with(compiler, place.name, "-shared", "-fPIC")
         path = pathlib.Path(place.name) / "libtopk.so"
         words = ["-shared", "-fPIC", "-O2", "-o", path, REPOSITORY / heap, "-Wl,--whole-archive", ARCHIVE, "-Wl,--no-whole-archive"]
-        subprocess.run([found, *words], check=True, timeout=SECONDS)
+        subprocess.run([compiler, *words], check=True, timeout=SECONDS)
         _loaded[heap] = path
     return str(_loaded[heap])
+
+
+def compile_with(compiler, place, *words):
+    """Skips the test where a compiler can't build the least program here."""
+    source = pathlib.Path(place) / "least.c"
+    source.write_text("#include <stdlib.h>\nint main(void) { return 0; }\n", encoding="utf-8")
+    if peer([compiler, *words, "-o", pathlib.Path(place) / "least", source]).returncode != 0:
+        raise Skipped(f"{compiler} builds no program here")
 
 
 class Row(ctypes.Structure):
@@ -55,7 +58,11 @@ class List(ctypes.Structure):
 
 
 def library(heap="c/heap.c"):
-    found = ctypes.CDLL(built(heap))
+    path = built(heap)
+    try:
+        found = ctypes.CDLL(path)
+    except OSError as fault:
+        raise Skipped(f"no library can be loaded from here: {fault}") from None
     text = [ctypes.c_char_p, ctypes.c_size_t]
     for call, given in ((found.topk_answer, text), (found.topk_judge, text), (found.topk_answer_rows, [ctypes.POINTER(List), ctypes.c_size_t, *text])):
         call.argtypes = [*given, *text, ctypes.POINTER(ctypes.c_size_t)]
@@ -225,6 +232,7 @@ def library_empty_input(program):
 
 
 def library_largest_input(program):
+    needs(no_memory(LARGEST))
     answer = library().topk_answer
     found = whole(answer, padded_bundle(MAX_INPUT))[:2]
     if found != (1, b"refused 1 LongLine 4096\n"):
@@ -236,6 +244,7 @@ def library_largest_input(program):
 
 def library_on_threads(program):
     """Eight threads at once, each with queries of its own, get what one thread gets."""
+    needs(no_threads(20))
     answer = library().topk_answer
     bundles = [BUNDLE.replace(b"top 1", b"top %d" % k).replace(b"ta\n", word + b"\n") for k in (1, 2, 3, 4) for word in (b"ta", b"ca")]
     wanted, wrong = [whole(answer, bundle) for bundle in bundles], []
@@ -253,27 +262,17 @@ def library_on_threads(program):
     return f"threads {sorted(set(wrong))} got another text" if wrong else None
 
 
-def resident():
-    try:
-        with open("/proc/self/statm", encoding="ascii") as file:
-            return int(file.read().split()[1]) * 4
-    except OSError:
-        raise Skipped("there is no /proc") from None
-
-
 def library_keeps_nothing(program):
-    """After 100,000 calls as much memory is resident as after 1,000."""
-    found, out, written, rows = library(), ctypes.create_string_buffer(4096), ctypes.c_size_t(), rows_given(*taken_apart(BUNDLE))
-
-    def work(calls):
-        for _ in range(calls // 3):
-            found.topk_answer_rows(*rows, out, 4096, ctypes.byref(written))
-            found.topk_answer(BUNDLE, len(BUNDLE), out, 4096, ctypes.byref(written))
-            found.topk_judge(BEATEN, len(BEATEN), out, 4096, ctypes.byref(written))
-    work(1_000)
-    before = resident()
-    work(99_000)
-    return None if resident() <= before + 256 else f"{resident() - before} KB more"
+    """After each of 10,000 calls no block is left."""
+    found, out, written, rows = library("tests/failing_heap.c"), ctypes.create_string_buffer(4096), ctypes.c_size_t(), rows_given(*taken_apart(BUNDLE))
+    found.test_fail_at(0)
+    for number in range(10_000):
+        found.topk_answer_rows(*rows, out, 4096, ctypes.byref(written))
+        found.topk_answer(BUNDLE, len(BUNDLE), out, 4096, ctypes.byref(written))
+        found.topk_judge(BEATEN, len(BEATEN), out, 4096, ctypes.byref(written))
+        if found.test_blocks() != 0:
+            return f"round {number}: {found.test_blocks()} blocks weren't given back"
+    return None
 
 
 def library_refused_memory(program):
@@ -324,11 +323,13 @@ int main(void) {{
 }}
 """, encoding="utf-8")
         strict = ["-Wall", "-Wextra", "-Werror"]
-        words = [compiler("cc", "gcc", "clang"), "-std=c11", *strict, "-o", ended, source, REPOSITORY / "c" / "heap.c", ARCHIVE]
+        words = [path_of("cc", "gcc", "clang"), "-std=c11", *strict, "-o", ended, source, REPOSITORY / "c" / "heap.c", ARCHIVE]
         subprocess.run(words, check=True, timeout=SECONDS)
-        if subprocess.run([ended], timeout=SECONDS).returncode != 0:
+        if peer([ended]).returncode != 0:
             return "a program in C got another answer"
-        subprocess.run([compiler("c++", "g++", "clang++"), *strict, "-x", "c++", "-fsyntax-only", source], check=True, timeout=SECONDS)
+        other = path_of("c++", "g++", "clang++")
+        compile_with(other, place, "-x", "c++")
+        subprocess.run([other, *strict, "-x", "c++", "-fsyntax-only", source], check=True, timeout=SECONDS)
         return None
 
 

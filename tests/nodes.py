@@ -5,6 +5,7 @@ Each node takes so many connections as its test needs and ends by itself; one th
 from __future__ import annotations
 
 import contextlib
+import os
 import pathlib
 import socket
 import subprocess
@@ -12,7 +13,8 @@ import tempfile
 import time
 from collections.abc import Callable, Iterator
 
-from special import SECONDS, differs, run, write
+from machine import SECONDS, free_port, over_network
+from special import differs, run, write
 
 DATA = pathlib.Path(__file__).resolve().parent.parent / "crates" / "topk" / "data"
 HOTELS = ("price", "rating", "centre")
@@ -25,13 +27,6 @@ MANY = 1_000_000
 SIZE = b"GET /lists/price/size HTTP/1.1\r\nHost: h\r\n\r\n"
 
 
-def free_port() -> int:
-    """A port at which nobody listens."""
-    with socket.socket() as found:
-        found.bind(("127.0.0.1", 0))
-        return found.getsockname()[1]
-
-
 def listens(port: int, process: subprocess.Popen[bytes]) -> bool:
     """Whether a process comes to listen, which a connection tells that sends nothing and leaves: it is the first of those that the process takes."""
     end = time.monotonic() + SECONDS
@@ -40,19 +35,24 @@ def listens(port: int, process: subprocess.Popen[bytes]) -> bool:
             with socket.create_connection(("127.0.0.1", port), SECONDS):
                 return True
         except ConnectionRefusedError:
-            time.sleep(0.02)
+            time.sleep(0.02)  # It may not listen yet; nothing rests on how long this takes.
     return False
 
 
 @contextlib.contextmanager
 def node(program: str, name: str, conns: int, *words: str) -> Iterator[tuple[int, subprocess.Popen[bytes]]]:
     """A node of a list of the hotels, which has taken one of its connections: its port, and the process."""
-    port = free_port()
-    command = [program, "node", "catalog.csv", name, "--at", str(port), "--conns", str(conns), *words]
-    with subprocess.Popen(command, stdout=subprocess.PIPE, stderr=subprocess.PIPE, cwd=DATA) as process:
+    with begun([program, "node", "catalog.csv", name, "--conns", str(conns), *words], DATA) as started:
+        yield started
+
+
+@contextlib.contextmanager
+def begun(command: list[str], place: str | os.PathLike[str]) -> Iterator[tuple[int, subprocess.Popen[bytes]]]:
+    """A process that listens at a free port, which it is told as the last of its options: its port, and the process."""
+    with free_port() as port, subprocess.Popen([*command, "--at", str(port)], stdout=subprocess.PIPE, stderr=subprocess.PIPE, cwd=place) as process:
         try:
             if not listens(port, process):
-                raise AssertionError(f"the node of {name} doesn't listen")
+                raise AssertionError(f"{' '.join(command[1:])} doesn't listen, but ended with {process.poll()}")
             yield port, process
         finally:
             process.kill()
@@ -67,12 +67,19 @@ def ended(process: subprocess.Popen[bytes], status: int, output: bytes) -> str |
     return differs(subprocess.CompletedProcess([], process.returncode, out), status, output)
 
 
-def reply(port: int, request: bytes) -> bytes:
-    """What a node at a port replies to these bytes."""
-    with socket.create_connection(("127.0.0.1", port), SECONDS) as link:
-        link.sendall(request)
-        link.shutdown(socket.SHUT_WR)
-        parts = []
+def reply(port: int, request: bytes, seconds: float = SECONDS) -> bytes:
+    """What a node at a port replies to these bytes, which it needn't read to their end."""
+    with socket.create_connection(("127.0.0.1", port), seconds) as link:
+        with contextlib.suppress(OSError):
+            link.sendall(request)
+            link.shutdown(socket.SHUT_WR)
+        return received(link)
+
+
+def received(link: socket.socket) -> bytes:
+    """What comes of a connection until it is closed, or broken off where the other end had bytes that it didn't read."""
+    parts = []
+    with contextlib.suppress(ConnectionError):
         while part := link.recv(65536):
             parts.append(part)
     return b"".join(parts)
@@ -123,9 +130,10 @@ def counted(program: str) -> str | None:
 
 def refused(program: str) -> str | None:
     """A name that the catalog lacks is refused, and a list whose file is missing; both without listening."""
-    port = str(free_port())
-    return differs(run(program, ["node", "catalog.csv", "nothing", "--at", port], b"", DATA), 1, b"refused node UnknownList nothing\n") \
-        or differs(run(program, ["node", "catalog.csv", "stars", "--at", port], b"", DATA), 6, b"")
+    with free_port() as port:
+        at = ["--at", str(port)]
+        return differs(run(program, ["node", "catalog.csv", "nothing", *at], b"", DATA), 1, b"refused node UnknownList nothing\n") \
+            or differs(run(program, ["node", "catalog.csv", "stars", *at], b"", DATA), 6, b"")
 
 
 def taken_port(program: str) -> str | None:
@@ -139,4 +147,4 @@ def taken_port(program: str) -> str | None:
 def tests() -> Iterator[tuple[str, Callable[[str], str | None]]]:
     """Each test with its name."""
     for test in (run_of_nodes, versions, counted, refused, taken_port):
-        yield f"nodes_{test.__name__}", test
+        yield f"nodes_{test.__name__}", over_network(test)

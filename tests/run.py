@@ -1,16 +1,19 @@
 #!/usr/bin/env python3
 """Runs the built program as its users do: a process with words, streams and files, its exit status and what it writes.
 
-Use, from anywhere: python3 tests/run.py [--program PATH] [NAME ..]
+Use, from anywhere: python3 tests/run.py [--program PATH] [--minutes N] [NAME ..]
 
 Without names all tests run. Each folder of cases/ is one: `words` (a word a line), `input` (standard input, empty where there is none), `files/`
-(copied to where the program runs), `output` (what it has to write) and `status` (0 where there is none). Tests that need more than a folder, as
-inputs of 128 MB or a full device, stand in special.py, those of the completions for shells in completions.py, of the library beside the program in
-library.py, of the page that draws certificates in view.py, of the nodes over databases in bridges.py, of `run` over lists that hosts serve in
-hosts.py, of `node` in nodes.py, of `serve` in servers.py, and those in which each allocation is refused in turn in starving.py. What a machine lacks is skipped by name. Ends with 'N passed, M
-failed', and with the status 0 exactly where none failed. Standard library alone.
+(copied to where the program runs), `output` (what it has to write) and `status` (0 where there is none). Tests that need more than a folder stand by
+topic: special.py has inputs of 128 MB, full devices and threads that are counted, completions.py the completions for shells, library.py the library
+beside the program, view.py the page that draws certificates, bridges.py the nodes over databases, hosts.py `run` over lists that hosts serve, nodes.py
+`node`, servers.py `serve`, peers.py both with curl, nginx and others, and starving.py those in which each allocation is refused in turn.
+
+What a machine lacks (machine.py) is skipped by name, as are tests that haven't begun when the minutes are over, so that no machine fails a test.
+Ends with 'N passed, M failed', and with the status 0 exactly where none failed. Standard library alone.
 """
 import argparse
+import importlib
 import os
 import pathlib
 import shutil
@@ -18,20 +21,13 @@ import signal
 import subprocess
 import sys
 import tempfile
+import time
+import traceback
 
-import bridges
-import completions
-import hosts
-import library
-import nodes
-import servers
-import special
-import starving
-import view
-
+OLDEST = (3, 9)
 HERE = pathlib.Path(__file__).resolve().parent
 PROGRAM = HERE.parent / "crates" / "topk" / "out" / "topk"
-SECONDS = 60
+TOPICS = ("special", "completions", "library", "view", "bridges", "hosts", "nodes", "servers", "peers", "starving")
 
 
 def read(path, default):
@@ -45,7 +41,7 @@ def run_case(program, folder):
     with tempfile.TemporaryDirectory() as place:
         if (folder / "files").is_dir():
             shutil.copytree(folder / "files", place, dirs_exist_ok=True)
-        done = subprocess.run([program, *words], input=read(folder / "input", b""), capture_output=True, cwd=place, timeout=SECONDS)
+        done = subprocess.run([program, *words], input=read(folder / "input", b""), capture_output=True, cwd=place, timeout=machine.SECONDS)
     if done.stderr:
         return f"wrote to standard error: {done.stderr[:200]!r}"
     if done.returncode != wanted[0]:
@@ -55,45 +51,101 @@ def run_case(program, folder):
     return None
 
 
-def tests(program):
-    """Names with what runs the test: it answers what is wrong, or None, or raises Skipped."""
+def skipped(why):
+    """A test that this machine can't run, and why."""
+    raise machine.Skipped(why)
+
+
+def tests():
+    """Names with what runs the test of a program: it answers what is wrong, or None, or raises Skipped."""
     for folder in sorted((HERE / "cases").iterdir()):
-        yield folder.name, lambda folder=folder: run_case(program, folder)
-    for module in (special, completions, library, view, bridges, hosts, nodes, servers, starving):
-        for name, test in module.tests():
-            yield name, lambda test=test: test(program)
+        yield folder.name, lambda program, folder=folder: run_case(program, folder)
+    for topic in TOPICS:
+        try:
+            module = importlib.import_module(topic)
+        except ImportError as fault:
+            if fault.name in TOPICS:
+                raise
+            yield topic, lambda _, fault=fault: skipped(f"this Python has no {fault.name}")
+            continue
+        yield from module.tests()
+
+
+def wrong_with(test, program):
+    """What is wrong, or None. Skips the test where the machine has no more of something."""
+    try:
+        return test(program)
+    except machine.Skipped:
+        raise
+    except subprocess.TimeoutExpired as late:
+        return f"didn't end within {late.timeout:.0f} s"
+    except MemoryError:
+        skipped("the machine has no more memory for the tests")
+    except OSError as fault:
+        if fault.errno in machine.LACKS:
+            skipped(f"the machine says: {fault.strerror}")
+        return "".join(traceback.format_exception(type(fault), fault, fault.__traceback__)[-3:])
+    except Exception:  # Whatever the test has met: the others run all the same.
+        return traceback.format_exc(limit=-2)
+
+
+def run_all(program, names, minutes):
+    """Runs the tests of these names, or all, and answers how many passed, how many failed, and the skipped ones."""
+    passed, failed, passed_over, late = 0, 0, [], time.monotonic() + 60 * minutes
+    for name, test in tests():
+        if names and name not in names:
+            continue
+        try:
+            if time.monotonic() > late:
+                skipped(f"the {minutes:g} minutes are over")
+            wrong = wrong_with(test, program)
+        except machine.Skipped as why:
+            passed_over.append(f"{name} ({why})")
+            continue
+        passed, failed = passed + (wrong is None), failed + (wrong is not None)
+        if wrong is not None:
+            print(f"{name}: {wrong}", flush=True)
+    return passed, failed, passed_over
+
+
+def unfit():
+    """Why no test can run on this machine, or None."""
+    if sys.version_info < OLDEST:
+        return "they need Python {}.{} or later".format(*OLDEST)
+    try:
+        tempfile.gettempdir()
+    except FileNotFoundError:
+        return "there is no folder in which they may write"
+    return None
 
 
 def main():
     signal.signal(signal.SIGTERM, lambda *_: sys.exit("ended from outside"))  # What tests have started is ended all the same.
     words = argparse.ArgumentParser(description="Runs the built program as its users do.")
     words.add_argument("--program", type=pathlib.Path, default=PROGRAM)
+    words.add_argument("--minutes", type=float, default=60, help="no test begins later than that")
     words.add_argument("names", nargs="*")
     given = words.parse_args()
     program = given.program.resolve()
-    if not program.exists():
-        sys.exit(f"there is no program at {program}: `make topk` builds it")
-    passed, failed, skipped = 0, 0, []
-    for name, test in tests(str(program)):
-        if given.names and name not in given.names:
-            continue
-        try:
-            wrong = test()
-        except special.Skipped as why:
-            skipped.append(f"{name} ({why})")
-            continue
-        except subprocess.TimeoutExpired:
-            wrong = f"didn't end within {SECONDS} s"
-        if wrong is None:
-            passed += 1
-        else:
-            failed += 1
-            print(f"{name}: {wrong}")
-    for name in skipped:
+    if not program.is_file():
+        print(f"there is no program at {program}: `make topk` builds it\n0 passed, 1 failed")
+        return 1
+    unknown = set(given.names) - {name for name, _ in tests()}
+    if unknown:
+        sys.exit(f"there is no test {' '.join(sorted(unknown))}")
+    machine.settle()
+    passed, failed, passed_over = run_all(str(program), given.names, given.minutes)
+    for name in passed_over:
         print(f"skipped: {name}")
     print(f"{passed} passed, {failed} failed")
     return 0 if failed == 0 else 1
 
 
 if __name__ == "__main__":
+    if unfit() is not None:
+        print("skipped: all tests ({})\n0 passed, 0 failed".format(unfit()))
+        sys.exit(0)
+    for stream in (sys.stdout, sys.stderr):
+        stream.reconfigure(errors="backslashreplace")
+    import machine
     sys.exit(main())

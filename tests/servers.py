@@ -6,7 +6,9 @@ from __future__ import annotations
 
 import concurrent.futures
 import contextlib
+import os
 import random
+import resource
 import shutil
 import socket
 import subprocess
@@ -16,8 +18,9 @@ import urllib.parse
 from collections.abc import Callable, Iterator
 
 import nodes
-from nodes import DATA, HOTELS, MANY, ended, free_port, listens, reply
-from special import SECONDS, Skipped, differs, run, write
+from machine import SECONDS, needs, no_files, no_memory, no_room, over_network
+from nodes import DATA, HOTELS, MANY, begun, ended, received, reply
+from special import differs, run, write
 
 LINES = (
     "top 2 by sum(price,rating,centre) using ta",
@@ -35,15 +38,8 @@ LINES = (
 @contextlib.contextmanager
 def server(program: str, conns: int, *words: str, place: str | None = None) -> Iterator[tuple[int, subprocess.Popen[bytes]]]:
     """A server over the catalog of the hotels, or of a place, which has taken one of its connections: its port, and the process."""
-    port = free_port()
-    command = [program, "serve", "catalog.csv", "--at", str(port), "--conns", str(conns), *words]
-    with subprocess.Popen(command, stdout=subprocess.PIPE, stderr=subprocess.PIPE, cwd=place or DATA) as process:
-        try:
-            if not listens(port, process):
-                raise AssertionError("the server doesn't listen")
-            yield port, process
-        finally:
-            process.kill()
+    with begun([program, "serve", "catalog.csv", "--conns", str(conns), *words], place or DATA) as started:
+        yield started
 
 
 def request(line: str) -> bytes:
@@ -98,7 +94,8 @@ def statuses(program: str) -> str | None:
 def at_once(program: str) -> str | None:
     """64 clients at once get what one after another would get, in any order of the requests."""
     wanted = {line: whole(body(program, line)) for line in LINES}
-    asked = [random.Random(5).choice(LINES) for _ in range(256)]
+    made = random.Random(5)
+    asked = [made.choice(LINES) for _ in range(256)]
     with server(program, len(asked) + 1) as (port, process), concurrent.futures.ThreadPoolExecutor(64) as clients:
         for line, given in zip(asked, clients.map(lambda line: reply(port, request(line)), asked)):
             if given != wanted[line]:
@@ -106,21 +103,150 @@ def at_once(program: str) -> str | None:
         return ended(process, 0, b"served %d\n" % (len(asked) + 1))
 
 
+@contextlib.contextmanager
+def slow_clients(port: int, count: int) -> Iterator[list[socket.socket]]:
+    """Clients that have sent the front of a request, and send a byte more every now and then, so that each holds a worker as long as this lasts."""
+    ended, links = threading.Event(), []
+
+    def feed() -> None:
+        with contextlib.suppress(OSError):
+            while not ended.wait(0.5):
+                for link in links:
+                    link.sendall(b"a")
+
+    with contextlib.ExitStack() as held:
+        for _ in range(count):
+            links.append(held.enter_context(socket.create_connection(("127.0.0.1", port), SECONDS)))
+            links[-1].sendall(b"GET /top?q=")
+        feeding = threading.Thread(target=feed, daemon=True)
+        feeding.start()
+        try:
+            yield links
+        finally:
+            ended.set()
+            feeding.join()
+
+
+def words(program: str) -> str | None:
+    """Words of `serve` and `node` that are no command are refused, each for one word alone, before anything is read or listened at."""
+    serve, node = ("serve", "nothing.csv"), ("node", "nothing.csv", "price")
+    numbers = {"--at": ("0", "65536", "08000", "+8000", "-1", "", "x"), "--conns": ("0", "1000001"), "--workers": ("0", "33"), "--page": ("0", "10001"),
+               "--ahead": ("101",), "--version": ("9223372036854775808",)}
+    rows = [serve, node, ("serve", "--at", "8000"), (*node[:2], "--at", "8000"), (*serve, "price", "--at", "8000"), (*node, "price", "--at", "8000"),
+            (*serve, "--at", "8000", "--at", "8000"), (*serve, "--at", "8000", "--version", "1"), (*node, "--at", "8000", "--workers", "1"), (*serve, "--at")]
+    for option, wrong in numbers.items():
+        command = node if option == "--version" else serve
+        rows += [(*command, *(() if option == "--at" else ("--at", "8000")), option, word) for word in wrong]
+    for row in rows:
+        wrong = differs(run(program, row), 2, b"refused words\n")
+        if wrong is not None:
+            return f"{' '.join(row)}: {wrong}"
+    for row in ((*serve, "--at", "65535", "--conns", "1000000", "--workers", "32", "--page", "10000", "--ahead", "100"), (*serve, "--at=1", "--workers=1"),
+                (*node, "--at", "1", "--version", "9223372036854775807", "--conns", "1"), ("node", "--at", "1", *node[1:])):
+        wrong = differs(run(program, row), 6, b"")  # There is no such catalog.
+        if wrong is not None:
+            return f"{' '.join(row)}: {wrong}"
+    return None
+
+
 def misbehaving(program: str) -> str | None:
     """While one client sends nothing, one a byte now and then, and one has left in the middle, the others get whole replies."""
     line = LINES[0]
     wanted = whole(body(program, line))
-    with server(program, 16, "--workers", "4") as (port, process), contextlib.ExitStack() as held:
-        silent, slow, gone = (held.enter_context(socket.create_connection(("127.0.0.1", port), SECONDS)) for _ in range(3))
-        gone.sendall(request(line)[:20])
-        gone.close()
-        for byte in request(line)[:12]:
-            slow.sendall(bytes([byte]))
-            if reply(port, request(line)) != wanted:
-                return "another reply while a client is slow"
-        silent.close()
-        slow.close()
+    with server(program, 16, "--workers", "4") as (port, process):
+        with slow_clients(port, 1), socket.create_connection(("127.0.0.1", port), SECONDS):
+            with socket.create_connection(("127.0.0.1", port), SECONDS) as gone:
+                gone.sendall(request(line)[:20])
+            for _ in range(12):
+                if reply(port, request(line)) != wanted:
+                    return "another reply while a client is slow"
         return ended(process, 0, b"served 16\n")
+
+
+def workers(program: str) -> str | None:
+    """As many clients are served at the same time as there are workers: beside seven slow ones the eighth gets its reply."""
+    wanted = whole(body(program, LINES[0]))
+    with server(program, 9, "--workers", "8") as (port, process):
+        with slow_clients(port, 7):
+            try:
+                if reply(port, request(LINES[0]), SECONDS / 3) != wanted:
+                    return "another reply while seven clients are slow"
+            except socket.timeout:
+                return "no reply while seven clients are slow"
+        return ended(process, 0, b"served 9\n")
+
+
+def megabytes(program: str) -> str | None:
+    """A head of a megabyte, and a line of one, are refused before they are read to their end, and the next client is served."""
+    rows = {"a head": b"GET /top?q= HTTP/1.1\r\nHost: h\r\nX: " + b"y" * 1_000_000 + b"\r\n\r\n",
+            "a line": b"GET /top?q=" + b"a" * 1_000_000 + b" HTTP/1.1\r\nHost: h\r\n\r\n", "no end of a line": b"G" * 1_000_000}
+    wanted = whole(body(program, LINES[0]))
+    with server(program, 2 * len(rows) + 1, "--workers", "1") as (port, process):
+        for name, sent in rows.items():
+            given = reply(port, sent)
+            # The reply may be lost where the connection is broken off before all was sent.
+            if given != b"" and not given.startswith((b"HTTP/1.1 431 ", b"HTTP/1.1 400 ")):
+                return f"{name} of a megabyte: replied {given[:200]!r}"
+            if reply(port, request(LINES[0])) != wanted:
+                return f"behind {name} of a megabyte: another reply"
+        return ended(process, 0, b"served %d\n" % (2 * len(rows) + 1))
+
+
+def silent_ones(port: int, count: int, held: contextlib.ExitStack, now_and_then: Callable[[], object]) -> None:
+    """So many clients that send nothing. Those for which the port has no room yet go on trying."""
+    for number in range(count):
+        link = held.enter_context(socket.socket())
+        link.setblocking(False)
+        link.connect_ex(("127.0.0.1", port))
+        if number % 100 == 0:
+            now_and_then()
+
+
+def many_silent(program: str) -> str | None:
+    """Thousands of clients that send nothing: whoever has a worker is served meanwhile, the process holds few of them, and once they leave all is as before."""
+    needs(no_files(2000))
+    most = resource.getrlimit(resource.RLIMIT_NOFILE)[0]
+    count = 10_000 if most == resource.RLIM_INFINITY else min(10_000, most - 1000)
+    line, wanted = request(LINES[0]), whole(body(program, LINES[0]))
+    with server(program, MANY, "--workers", "4") as (port, process), socket.create_connection(("127.0.0.1", port), SECONDS) as first:
+        with contextlib.ExitStack() as held:
+            first.sendall(line[:-2] + b"X: ")
+            silent_ones(port, count, held, lambda: first.sendall(b"y"))
+            first.sendall(b"\r\n\r\n")
+            if received(first) != wanted:
+                return f"another reply among {count} silent clients"
+            if os.path.exists("/proc/self/fd") and len(os.listdir(f"/proc/{process.pid}/fd")) > 64:
+                return f"the process holds {len(os.listdir(f'/proc/{process.pid}/fd'))} files"
+        if reply(port, line) != wanted:
+            return f"another reply after {count} silent clients"
+        return None if process.poll() is None else f"ended with {process.returncode}"
+
+
+def given_up(program: str) -> str | None:
+    """Who sends nothing, or doesn't read the reply, holds a node or a worker for a while, and not for ever: the next one is served."""
+    needs(no_memory(500), no_room(100))
+    count, wanted = 200_000, whole(body(program, LINES[0]))
+    with tempfile.TemporaryDirectory() as place, contextlib.ExitStack() as held:
+        shutil.copytree(DATA, place, dirs_exist_ok=True)
+        for name in "AB":
+            write(place, f"{name}.csv", "".join(f"{it},{1_000_000 - it}\n" for it in range(count)))
+        with open(f"{place}/catalog.csv", "a", encoding="utf-8") as file:
+            file.write("A,A.csv,no\nB,B.csv,no\n")
+        node, _ = held.enter_context(nodes.node(program, "price", MANY))
+        silent, _ = held.enter_context(server(program, MANY, "--workers", "1"))
+        deaf, _ = held.enter_context(server(program, MANY, "--workers", "1", place=place))
+        for port in (node, silent):
+            held.enter_context(socket.create_connection(("127.0.0.1", port), SECONDS))
+        link = held.enter_context(socket.socket())
+        link.setsockopt(socket.SOL_SOCKET, socket.SO_RCVBUF, 4096)
+        link.connect(("127.0.0.1", deaf))
+        link.sendall(request(f"top {count} by min(A,B) using nra"))
+        asked = [(node, nodes.SIZE), (silent, request(LINES[0])), (deaf, request(LINES[0]))]
+        with concurrent.futures.ThreadPoolExecutor(len(asked)) as clients:
+            first, *others = clients.map(lambda it: reply(*it), asked)
+    if not first.endswith(b'{"count":24}'):
+        return f"a node replied {first[:200]!r} behind a silent client"
+    return next((f"replied {it[:200]!r} behind a client that {what}" for it, what in zip(others, ("is silent", "doesn't read")) if it != wanted), None)
 
 
 def over_nodes(program: str) -> str | None:
@@ -217,21 +343,8 @@ def refused(program: str) -> str | None:
             or differs(run(program, ["serve", "nothing.csv", "--at", port], b"", place), 6, b"")
 
 
-def curl(program: str) -> str | None:
-    """What curl is told is what `run` writes, over HTTP/1.1 and 1.0."""
-    if shutil.which("curl") is None:
-        raise Skipped("there is no curl")
-    wanted = body(program, LINES[0])
-    with server(program, MANY) as (port, _):
-        for words in ((), ("--http1.0",)):
-            command = ["curl", "-sS", *words, "-G", f"http://127.0.0.1:{port}/top", "--data-urlencode", f"q={LINES[0]}"]
-            done = subprocess.run(command, capture_output=True, timeout=SECONDS, check=False)
-            if (done.returncode, done.stdout) != (0, wanted):
-                return f"{' '.join(words)}: ended with {done.returncode}, gave {done.stdout[:200]!r} {done.stderr[:200]!r}"
-    return None
-
-
 def tests() -> Iterator[tuple[str, Callable[[str], str | None]]]:
     """Each test with its name."""
-    for test in (lines, statuses, at_once, misbehaving, over_nodes, generations, read_once, refused, curl):
-        yield f"servers_{test.__name__}", test
+    yield "servers_words", words
+    for test in (lines, statuses, at_once, misbehaving, workers, megabytes, many_silent, given_up, over_nodes, generations, read_once, refused):
+        yield f"servers_{test.__name__}", over_network(test)

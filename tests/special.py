@@ -6,12 +6,11 @@ import subprocess
 import tempfile
 import time
 
+from machine import SECONDS, Skipped, needs, no_memory, no_room, no_threads
+
 MAX_INPUT = 134_217_728
-SECONDS = 100
-
-
-class Skipped(Exception):
-    """What this machine lacks."""
+# What the largest input takes: here, in the pipe's two ends, and in the program's buffer while it grows.
+LARGEST = 1500
 
 
 def run(program, words, data=b"", place=None, **more):
@@ -43,10 +42,12 @@ def padded_bundle(size):
 
 
 def largest_input(program):
+    needs(no_memory(LARGEST))
     return differs(run(program, ["one"], padded_bundle(MAX_INPUT)), 1, b"refused 1 LongLine 4096\n")
 
 
 def one_byte_more(program):
+    needs(no_memory(LARGEST))
     return differs(run(program, ["one"], padded_bundle(MAX_INPUT + 1)), 9, b"")
 
 
@@ -81,7 +82,11 @@ def closed_pipe(program):
 
 def little_memory(program):
     """A process that may have 200 MB reads an input of which it has to keep more than that in its growing buffer."""
-    done = run(program, ["one"], padded_bundle(MAX_INPUT), preexec_fn=lambda: resource.setrlimit(resource.RLIMIT_AS, (200_000_000, 200_000_000)))
+    needs(no_memory(LARGEST))
+    little, most = 200_000_000, resource.getrlimit(resource.RLIMIT_AS)[1]
+    if most != resource.RLIM_INFINITY and most < little:
+        raise Skipped("a process may have less than 200 MB here")
+    done = run(program, ["one"], padded_bundle(MAX_INPUT), preexec_fn=lambda: resource.setrlimit(resource.RLIMIT_AS, (little, little)))
     return differs(done, 8, b"")
 
 
@@ -108,6 +113,7 @@ def place_is_asked(program):
 
 def great_lists(program):
     """Two lists of 200,000 rows: the best by their sum, found by adding up all of them; each file has more than 2 MB."""
+    needs(no_memory(500), no_room(100))
     count, made = 200_000, random.Random(2026)
     grades = [[made.randrange(1_000_001) for _ in range(count)] for _ in range(2)]
     with tempfile.TemporaryDirectory() as place:
@@ -126,6 +132,7 @@ def great_lists(program):
 
 def last_row_counts(program):
     """The object that is wanted is asked for by name and stands in the last row of a file of 3 MB."""
+    needs(no_memory(500), no_room(100))
     count = 200_000
     with tempfile.TemporaryDirectory() as place:
         write(place, "catalog.csv", catalog(["A", "B"]))
@@ -140,6 +147,7 @@ def last_row_counts(program):
 
 def many_sources(program):
     """64 sources, each wanted by one line."""
+    needs(no_threads(200))
     names = [f"s{it}" for it in range(64)]
     with tempfile.TemporaryDirectory() as place:
         write(place, "catalog.csv", catalog(names))
@@ -152,38 +160,53 @@ def many_sources(program):
     return differs(done, 0) or (None if found == wanted else f"answered {found[:4]} ..")
 
 
+def most_threads(program, workers):
+    """The most threads that a run of `bulk` had, how many looks found them, and how it ended."""
+    words = ["bulk", "--start", "7", "--count", "100000", "--lists", "2", "--queries", "64", "--workers", str(workers)]
+    counts, late = [], time.monotonic() + SECONDS
+    with subprocess.Popen([program, *words], stdout=subprocess.DEVNULL) as process:
+        try:
+            while process.poll() is None and time.monotonic() < late:
+                counts.append(len(os.listdir(f"/proc/{process.pid}/task")))
+                time.sleep(0.001)
+        except (FileNotFoundError, ProcessLookupError):  # It ended between the two looks.
+            process.wait(SECONDS)
+        finally:
+            process.kill()
+    most = max(counts, default=0)
+    return most, counts.count(most), process.returncode
+
+
 def workers_are_threads(program):
     """`bulk` runs as many workers as it is told: beside the first thread and the fetchers of two lists, one and eight more."""
-    def most(workers):
-        words = ["bulk", "--start", "7", "--count", "20000", "--lists", "2", "--queries", "64", "--workers", str(workers)]
-        with subprocess.Popen([program, *words], stdout=subprocess.DEVNULL) as process:
-            seen = 0
-            while process.poll() is None:
-                try:
-                    seen = max(seen, len(os.listdir(f"/proc/{process.pid}/task")))
-                except FileNotFoundError:
-                    break
-                time.sleep(0.001)
-        return seen
+    needs(no_threads(50))
     if not os.path.exists("/proc/self/task"):
         raise Skipped("there is no /proc")
-    few, many = most(1), most(8)
-    return None if many >= few + 6 else f"had {few} threads with one worker and {many} with eight"
+    (few, looks, first), (many, more_looks, second) = most_threads(program, 1), most_threads(program, 8)
+    if (first, second) != (0, 0):
+        return f"ended with {first} and {second}"
+    if many == few + 7:
+        return None
+    if min(looks, more_looks) < 20:
+        raise Skipped("the machine looks too seldom at threads that run")
+    return f"had {few} threads with one worker and {many} with eight"
 
 
 def settings_change_nothing(program):
-    """Hundreds of runs over threads with small pages write one text, and each comes to its end."""
+    """Hundreds of runs over threads with small pages write one text, and each comes to its end: no bell is rung where nobody hears it."""
+    needs(no_threads(50))
     with tempfile.TemporaryDirectory() as place:
-        write(place, "catalog.csv", catalog(["A", "B"]))
+        write(place, "catalog.csv", catalog("ABCD"))
         made = random.Random(7)
-        for name in "AB":
+        for name in "ABCD":
             rows = sorted(((made.randrange(1000), it) for it in range(200)), key=lambda row: (-row[0], row[1]))
             write(place, f"{name}.csv", "".join(f"{it},{grade}\n" for grade, it in rows))
-        lines = b"top 3 by sum(A,B) using ta\ntop 2 by min(A,B) using nra\ntop 4 by max(A,B) using ca\n" * 4
+        lines = b"top 3 by sum(A,B) using ta\ntop 2 by min(A,B) using nra\ntop 4 by max(A,B) using ca\n" * 4 + b"top 3 by sum(A,B,C,D) using ta\n" * 24
         texts = set()
         for it in range(200):
-            words = ["--workers", str(1 + it % 8), "--page", str(1 + it % 5), "--ahead", str(it % 3)]
-            done = run(program, ["run", "catalog.csv", *words], lines, place)
+            # Every other run has the most turns that threads wait for at the same lock.
+            workers, page, ahead = (16, 1, 0) if it % 2 else (1 + it % 8, 1 + it % 5, it % 3)
+            done = run(program, ["run", "catalog.csv", "--workers", str(workers), "--page", str(page), "--ahead", str(ahead)], lines, place)
             if done.returncode != 0:
                 return f"run {it} ended with {done.returncode}"
             texts.add(done.stdout)

@@ -6,7 +6,7 @@ import subprocess
 import sys
 import tempfile
 
-from special import SECONDS, Skipped
+from machine import SECONDS, Skipped, path_of, peer
 
 HERE = pathlib.Path(__file__).resolve().parent
 WANT_OF_MEMORY = 8
@@ -18,12 +18,10 @@ CASES = {"starved_one": "one_answered", "starved_run": "run_all_answered", "star
 
 def built(place):
     """The path of what goes before the program."""
-    compiler = next((name for name in ("cc", "gcc", "clang") if shutil.which(name)), None)
-    if compiler is None or not sys.platform.startswith("linux"):
-        raise Skipped("there is no compiler, or no Linux")
+    if not sys.platform.startswith("linux"):
+        raise Skipped("there is no Linux")
     path = os.path.join(place, "starved.so")
-    done = subprocess.run([compiler, "-shared", "-fPIC", "-O2", "-o", path, str(HERE / "starved.c")], capture_output=True, timeout=SECONDS)
-    if done.returncode != 0:
+    if peer([path_of("cc", "gcc", "clang"), "-shared", "-fPIC", "-O2", "-o", path, HERE / "starved.c"]).returncode != 0:
         raise Skipped("what goes before the program can't be built here")
     return path
 
@@ -62,6 +60,8 @@ def each_refused(program, case):
             shutil.copytree(folder / "files", place, dirs_exist_ok=True)
         for number in range(1, MOST):
             done, refused = starved(program, words, data, place, before, number)
+            if number == 1 and not refused:
+                raise Skipped("what goes before the program isn't loaded here")
             wrong = wrong_end(done, refused, status, text)
             if wrong is not None:
                 return f"allocation {number}: {wrong}"

@@ -3,13 +3,14 @@
 The figures were worked out by hand: those of two_lists stand in docs/CERTIFICATE.md.
 """
 import html.parser
+import os
 import pathlib
-import shutil
+import re
 import subprocess
-import tempfile
 import urllib.parse
 
-from special import Skipped, run
+from machine import Skipped, needs, no_memory, no_threads, path_of, peer, scratch
+from special import run
 
 ROOT = pathlib.Path(__file__).resolve().parent.parent
 VIEW = ROOT / "examples" / "view"
@@ -18,7 +19,7 @@ CASES = ROOT / "tests" / "cases"
 BROWSERS = ("chromium", "chromium-browser", "google-chrome", "chrome")
 EMPTY = {"area", "base", "br", "col", "hr", "img", "input", "link", "meta", "source", "wbr"}
 SUMS = ("cost", "depth", "rows not read", "grades never known")
-SECONDS = 100
+_unable = []
 
 
 class Element:
@@ -72,17 +73,29 @@ class Reader(html.parser.HTMLParser):
 
 
 def page(text, pick=1):
-    """The page as a browser shows it, with a text in its address."""
-    browser = next(filter(None, map(shutil.which, BROWSERS)), None)
-    if browser is None:
-        raise Skipped("there is no Chromium")
+    """The page as a browser shows it, with a text in its address. A browser that couldn't show it once isn't asked again."""
+    if _unable:
+        raise Skipped(_unable[0])
+    try:
+        return Reader(dumped(path_of(*BROWSERS), text, pick)).root
+    except Skipped as why:
+        _unable.append(str(why))
+        raise
+
+
+def dumped(browser, text, pick):
+    """What a browser has made of the page."""
+    needs(no_threads(100), no_memory(1000))
     address = f"{(VIEW / 'index.html').as_uri()}#{urllib.parse.urlencode({'text': text, 'pick': pick})}"
-    with tempfile.TemporaryDirectory() as place:
-        words = [browser, "--headless", "--no-sandbox", "--disable-gpu", "--window-size=1000,1200", f"--user-data-dir={place}", "--dump-dom", address]
-        done = subprocess.run(words, capture_output=True, timeout=SECONDS, check=False)
-    if b"<html" not in done.stdout:
+    with scratch() as place:
+        own = dict(os.environ, HOME=place, XDG_CONFIG_HOME=place, XDG_CACHE_HOME=place, XDG_RUNTIME_DIR=place)
+        words = [browser, "--headless", "--no-sandbox", "--disable-gpu", "--disable-dev-shm-usage", "--disable-crash-reporter", "--no-first-run",
+                 "--window-size=1000,1200", f"--user-data-dir={place}", "--dump-dom", address]
+        done = peer(words, env=own, stderr=subprocess.DEVNULL)
+    # A browser that has no room or no right to run ends without a page, or with one of its own.
+    if b"</html>" not in done.stdout or b'role="status"' not in done.stdout:
         raise Skipped(f"{browser} shows no page")
-    return Reader(done.stdout.decode()).root
+    return done.stdout.decode()
 
 
 def first_difference(rows):
@@ -95,14 +108,12 @@ def first_difference(rows):
 
 def view_logic(_):
     """The logic against texts that were worked out by hand, under node."""
-    node = shutil.which("node")
-    if node is None:
-        raise Skipped("there is no node")
-    version = subprocess.run([node, "--version"], capture_output=True, text=True, timeout=SECONDS, check=True).stdout
-    if int(version.lstrip("v").split(".")[0]) < 20:
+    node = path_of("node")
+    version = peer([node, "--version"]).stdout.decode()
+    if not re.match(r"v(2[0-9]|[3-9][0-9])\.", version):
         raise Skipped(f"node {version.strip()} is older than 20")
-    done = subprocess.run([node, "--test", str(VIEW)], capture_output=True, text=True, timeout=SECONDS, check=False)
-    return None if done.returncode == 0 else f"node ended with {done.returncode}: {done.stdout[-1500:]}"
+    done = peer([node, "--test", *sorted(map(str, VIEW.glob("*.test.js")))])
+    return None if done.returncode == 0 else f"node ended with {done.returncode}: {done.stdout[-1500:].decode(errors='replace')}"
 
 
 def view_of_an_answer(program):
