@@ -1,5 +1,7 @@
-//! The commands over one input text, `one` over lists in memory too: `one` answers the query of a bundle, `compare` tells what each algorithm reads for it, `judge` tells
-//! whether a certificate fixes its answer, and `make` writes a made table as the sections of a bundle.
+//! The commands over one input text: `one`, `compare`, `judge` and `make`.
+//!
+//! `one` answers the query of a bundle, or of lists in memory, `compare` tells what each algorithm reads for it, `judge` tells whether a
+//! certificate fixes its answer, and `make` writes a made table as the sections of a bundle.
 //!
 //! The lists of a bundle are told, so a query runs over them without sources: its machine is fed until it needs nothing more.
 #![tactic(auto)]

@@ -1,5 +1,6 @@
-//! Catalogs: which lists there are and where, in text of comma-separated values, and the places that they name: paths of files and addresses
-//! of hosts.
+//! Catalogs: which lists there are and where, in text of comma-separated values, and the places that they name.
+//!
+//! A place is the path of a file, or the address of a list at a host.
 #![tactic(auto)]
 
 mod bytes;

@@ -19,7 +19,7 @@ use std::alloc::Global;
 /// place of 1 to 255 bytes, `yes` or `no` for random access, and, exactly where the first record has a fourth field,
 /// `yes` or `no` for sorted access. Without that field each source allows sorted access; none may be without both.
 /// A place is a file's path or the address
-/// `http://HOST:PORT/PATH` of a server's list, as `catalog_text` reads them. No two sources have one name. The fault names the first
+/// `http://HOST:PORT/PATH` of a server's list, as `location_of` reads them. No two sources have one name. The fault names the first
 /// record that is wrong, or the first record where there is none.
 ///
 /// *Cost*: one pass, and for each source three look-ups of its name.

@@ -1,5 +1,6 @@
-//! Runs each example of the input, a file and the words of a command on each line, and says how it ended and
-//! whether it wrote the text that stands beside the file. Each runs as a process of the program runs, over real files.
+//! Runs each example of the input, and says how it ended and whether it wrote the text that stands beside its file.
+//!
+//! A line of the input has the file and the words of a command. Each runs as a process of the program runs, over real files.
 #![tactic(auto)]
 
 mod given;

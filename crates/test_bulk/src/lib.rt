@@ -1,5 +1,6 @@
-//! Tests of many made queries over a made table, with workers and fetchers that really run: lines that were worked out apart, and that
-//! the settings change nothing.
+//! Tests of many made queries over a made table, with workers and fetchers that really run.
+//!
+//! They have lines that were worked out apart, and show that the settings change nothing.
 #![tactic(auto)]
 
 #[cfg(test)]

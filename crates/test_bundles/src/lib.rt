@@ -1,5 +1,7 @@
-//! Tests of the commands `one`, `compare`, `make` and `judge`: rows from outside, each fault of the streams in turn, made tables, and answers over
-//! tables that look random, against the aggregates of all objects and the certificates of the plain program.
+//! Tests of the commands `one`, `compare`, `make` and `judge`.
+//!
+//! They have rows from outside, each fault of the streams in turn, made tables, and answers over tables that look random, against the aggregates
+//! of all objects and the certificates of the plain program.
 #![tactic(auto)]
 
 #[cfg(test)]
