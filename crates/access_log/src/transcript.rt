@@ -169,7 +169,7 @@ impl Transcript {
     pub fn is_seen(&self, object: u32) -> bool
         ensures { IsTrue result ↔ Contains (seen_objects self.now.accesses) object }
     {
-        self.place_of(object).is_some()
+        self.sight_of(object).is_some()
     }
 
     /// How many objects sorted accesses gave.
@@ -182,7 +182,7 @@ impl Transcript {
     /// The place of an object in the order of first sight, from 0; None where no sorted access gave it.
     ///
     /// *Cost*: a look-up.
-    pub fn place_of(&self, object: u32) -> Option<u32>
+    pub fn sight_of(&self, object: u32) -> Option<u32>
         ensures { result ≡ position (nat_eq object) (seen_objects self.now.accesses) }
     {
         match self.objects.place(object) {

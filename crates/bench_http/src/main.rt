@@ -1,5 +1,6 @@
-//! What `make bench` times of HTTP: the response on the standard input is read over and over, by what topk reads a list's pages with, or, at the
-//! word `bare`, by the crates below that alone. It prints how many rows the response had each time.
+//! What `make bench` times of HTTP: a response is read over and over, by what topk reads a list's pages with.
+//!
+//! The response is the standard input. At the word `bare` the crates below alone read it. It prints how many rows the response had each time.
 #![tactic(auto)]
 
 mod bare;

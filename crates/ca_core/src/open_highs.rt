@@ -46,7 +46,7 @@ impl OpenHighs {
         ensures room { length self.new.highs ≡ length self.old.highs }
         ensures kept { KeepsOpen expr.now transcript.now self.new }
     {
-        let Some(place) = transcript.place_of(object) else {
+        let Some(place) = transcript.sight_of(object) else {
             return;
         };
         if next_unknown(transcript, object).is_none() {

@@ -5,7 +5,7 @@ ghost use Rattle.source_api.specs.Places.{SameAtEach};
 ghost use Rattle.catalog_open.specs.Slots.{IsIdle, of_slot};
 ghost use Rattle.catalog_open.specs.Openings.{IsKnownAt, KeepsOthers, PutsBack, put_back};
 
-use super::entries::place_of;
+use super::entries::place_of_entry;
 use catalog_text::Catalog;
 use fetcher::Slot;
 use source_api::Shelf;
@@ -30,6 +30,9 @@ pub fn put_back_all<H: Shelf>(
     ensures moves { PutsBack (reverse (put_back catalog.now places.now (map (of_slot H.Item.counts) slots.items))) (H.at shelf.old) (H.at shelf.new) }
 {
     while let Some(slot) = slots.pop() {
-        shelf.put_back(place_of(catalog, places[slots.len()]), slot.into_source());
+        shelf.put_back(
+            place_of_entry(catalog, places[slots.len()]),
+            slot.into_source(),
+        );
     }
 }

@@ -6,7 +6,7 @@ ghost use Rattle.catalog_open.specs.Entries.{entry_at};
 use catalog_text::Catalog;
 
 /// The place of an entry of the catalog, by where the entry stands.
-pub(crate) fn place_of(catalog: &Catalog, entry: u32) -> &str
+pub(crate) fn place_of_entry(catalog: &Catalog, entry: u32) -> &str
     requires { entry < length catalog.now }
     ensures { result.now ≡ (entry_at catalog.now entry).place }
 {

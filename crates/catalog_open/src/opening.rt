@@ -10,7 +10,7 @@ ghost use Rattle.catalog_open.specs.Slots.{IsIdle, fresh_slot, of_slot, sources_
 ghost use Rattle.catalog_open.specs.declared.opened.Opening.TheVariants as Opening;
 
 use super::Memory;
-use super::entries::place_of;
+use super::entries::place_of_entry;
 use super::opened::{Opened, Opening};
 use catalog_text::Catalog;
 use fetcher::Slot;
@@ -222,7 +222,7 @@ fn open_next<H: Shelf>(
     let Ok(()) = make_room(opened, slots) else {
         return Err(Memory);
     };
-    let Ok(found) = open_source(alloc, shelf, place_of(catalog, place)) else {
+    let Ok(found) = open_source(alloc, shelf, place_of_entry(catalog, place)) else {
         return Err(Memory);
     };
     match found {

@@ -6,14 +6,14 @@ use Rattle.cert_judge.specs.declared.judgement.Judgement.{Judgement}
 use Rattle.cert_judge.specs.declared.judgement.Judgement.TheVariants.{Fixes, Beaten}
 use Rattle.cert_judge.specs.declared.refusal.RefusalLine.{RefusalLine}
 use Rattle.cert_judge.specs.Text.{told_text}
-use Rattle.cert_judge.specs.Refusing.{shown_refusal, IsJudged, RefusesBy}
+use Rattle.cert_judge.specs.Refusing.{shown_refusal, IsVerdict, RefusesBy}
 
 pub refused_text : (told : Judgement) (line : RefusalLine) → RefusesBy told (Some line) → told_text told ≡ shown_refusal line ++ 10 ∷ []
 unfolding told_text
 refused_text told line is = ap unlines is ∙ append-nil (shown_refusal line ++ 10 ∷ [])
 
 -- a judged text whose answer isn't beaten is told to be fixed
-pub not_beaten : (told : Judgement) → IsJudged told
+pub not_beaten : (told : Judgement) → IsVerdict told
     → ((inside outside low high : ℕ) (counter : Bundle) → told ≡ Beaten inside outside low high counter → ⊥) → told ≡ Fixes
 not_beaten Fixes judged other = refl
 not_beaten (Beaten inside outside low high counter) judged other = absurd (other inside outside low high counter refl)

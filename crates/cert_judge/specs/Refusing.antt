@@ -12,12 +12,12 @@ shown_refusal (One name fields) = refused_line name.now fields
 shown_refusal (Two name fields) = refused_line name.now fields
 
 -- the text is judged: its answer is fixed, or beaten
-abbrev pub IsJudged : Judgement → Type 0
-IsJudged Fixes = Unit {0}
-IsJudged (Beaten inside outside low high counter) = Unit {0}
-IsJudged told = ⊥
+abbrev pub IsVerdict : Judgement → Type 0
+IsVerdict Fixes = Unit {0}
+IsVerdict (Beaten inside outside low high counter) = Unit {0}
+IsVerdict told = ⊥
 
 -- the line of the refusal is all that is told, or the text is judged
 abbrev pub RefusesBy : Judgement → Option RefusalLine → Type 0
 RefusesBy told (Some line) = told_lines told ≡ shown_refusal line ∷ []
-RefusesBy told None = IsJudged told
+RefusesBy told None = IsVerdict told

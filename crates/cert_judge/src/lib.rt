@@ -1,5 +1,6 @@
-//! Certificates, judged: what is told of the text of one, and the text of that. One that says within which factor of the
-//! best its answer is is judged within that.
+//! What is told of a certificate: that it fixes its answer, a table that beats it, or why it is refused.
+//!
+//! A certificate that says within which factor of the best its answer is is judged within that.
 //!
 //! ```text
 //! fixes

@@ -9,7 +9,7 @@ ghost use Rattle.tk_io.specs.Pieces.{Puts};
 ghost use Rattle.line_text.specs.Lines.{unlines};
 ghost use Rattle.bundle_text.specs.Bundle.{content, section, bundle_lines};
 ghost use Rattle.cert_judge.specs.Text.{refused_line, named, beaten_line, told_text};
-ghost use Rattle.cert_judge.specs.Refusing.{IsJudged};
+ghost use Rattle.cert_judge.specs.Refusing.{IsVerdict};
 
 use super::judgement::Judgement;
 use super::refusal::{RefusalLine, refusal_of};
@@ -79,7 +79,7 @@ fn put_bundle<P: Put>(out: &mut P, bundle: &Bundle)
 
 /// Puts whether the answer is fixed behind the bytes that wait: `fixes`, or the lines of a beaten answer.
 fn put_judged<P: Put>(out: &mut P, told: &Judgement)
-    requires { IsJudged told.now }
+    requires { IsVerdict told.now }
     ensures { Puts (P.at out.old) (P.at out.new)
         (told_text told.now) }
 {

@@ -26,14 +26,14 @@ drop_one : (n k x : ℕ) (xs : Text) → k ≡ suc n → drop k (x ∷ xs) ≡ d
 drop_one n k x xs is = ap (λ m. drop m (x ∷ xs)) is
 
 -- where the first `=` stands
-abbrev place_of : Text → ℕ
-place_of xs = position_or_len equals xs
+abbrev equals_at : Text → ℕ
+equals_at xs = position_or_len equals xs
 
-take_next : (x : ℕ) (xs : Text) → take (1 + place_of xs) (x ∷ xs) ≡ x ∷ before_first equals xs
-take_next x xs = take_one (place_of xs) (1 + place_of xs) x xs (omega arith)
+take_next : (x : ℕ) (xs : Text) → take (1 + equals_at xs) (x ∷ xs) ≡ x ∷ before_first equals xs
+take_next x xs = take_one (equals_at xs) (1 + equals_at xs) x xs (omega arith)
 
-drop_next : (x : ℕ) (xs : Text) → drop ((1 + place_of xs) + 1) (x ∷ xs) ≡ after_first equals xs
-drop_next x xs = drop_one (place_of xs + 1) ((1 + place_of xs) + 1) x xs (omega arith)
+drop_next : (x : ℕ) (xs : Text) → drop ((1 + equals_at xs) + 1) (x ∷ xs) ≡ after_first equals xs
+drop_next x xs = drop_one (equals_at xs + 1) ((1 + equals_at xs) + 1) x xs (omega arith)
 
 joined_text : (xs : Text) → list_any equals xs ≡ true → xs ≡ before_first equals xs ++ 61 ∷ after_first equals xs
 joined_text [] has = absurd (false≢true has)
@@ -41,18 +41,18 @@ joined_text (x ∷ xs) has = go (x == 61) (eqb-true x 61) has (joined_text xs)
   where
     go : (t : Bool) → (t ≡ true → x ≡ 61) → (t || list_any equals xs) ≡ true
         → (list_any equals xs ≡ true → xs ≡ before_first equals xs ++ 61 ∷ after_first equals xs)
-        → x ∷ xs ≡ take (if not t then 1 + place_of xs else 0) (x ∷ xs) ++ 61 ∷ drop ((if not t then 1 + place_of xs else 0) + 1) (x ∷ xs)
+        → x ∷ xs ≡ take (if not t then 1 + equals_at xs else 0) (x ∷ xs) ++ 61 ∷ drop ((if not t then 1 + equals_at xs else 0) + 1) (x ∷ xs)
     go true is h rest = ap (λ y. y ∷ xs) (is refl)
     go false is h rest =
         ap (λ ys. x ∷ ys) (rest h) ∙ ap (λ front. front ++ 61 ∷ after_first equals xs) (sym (take_next x xs))
-        ∙ ap (λ back. take (1 + place_of xs) (x ∷ xs) ++ 61 ∷ back) (sym (drop_next x xs))
+        ∙ ap (λ back. take (1 + equals_at xs) (x ∷ xs) ++ 61 ∷ back) (sym (drop_next x xs))
 
 apart_text : (xs : Text) → list_any equals xs ≡ false → before_first equals xs ≡ xs
 apart_text [] none = refl
 apart_text (x ∷ xs) none = go (x == 61) none (apart_text xs)
   where
     go : (t : Bool) → (t || list_any equals xs) ≡ false → (list_any equals xs ≡ false → before_first equals xs ≡ xs)
-        → take (if not t then 1 + place_of xs else 0) (x ∷ xs) ≡ x ∷ xs
+        → take (if not t then 1 + equals_at xs else 0) (x ∷ xs) ≡ x ∷ xs
     go true h rest = absurd (false≢true (sym h))
     go false h rest = take_next x xs ∙ ap (λ ys. x ∷ ys) (rest h)
 
@@ -62,8 +62,8 @@ record IsCut (name value : Text) : Type 0 where
   has : list_any equals (name ++ 61 ∷ value) ≡ true
 
 cut_step : (x : ℕ) (xs value : Text) → IsCut xs value → (t : Bool) → t ≡ false
-    → (take (if not t then 1 + place_of (xs ++ 61 ∷ value) else 0) (x ∷ xs ++ 61 ∷ value) ≡ x ∷ xs)
-    × (drop ((if not t then 1 + place_of (xs ++ 61 ∷ value) else 0) + 1) (x ∷ xs ++ 61 ∷ value) ≡ value) × ((t || list_any equals (xs ++ 61 ∷ value)) ≡ true)
+    → (take (if not t then 1 + equals_at (xs ++ 61 ∷ value) else 0) (x ∷ xs ++ 61 ∷ value) ≡ x ∷ xs)
+    × (drop ((if not t then 1 + equals_at (xs ++ 61 ∷ value) else 0) + 1) (x ∷ xs ++ 61 ∷ value) ≡ value) × ((t || list_any equals (xs ++ 61 ∷ value)) ≡ true)
 cut_step x xs value cut true is = absurd (false≢true (sym is))
 cut_step x xs value cut false is = (
   take_next x (xs ++ 61 ∷ value) ∙ ap (λ ys. x ∷ ys) cut.before,

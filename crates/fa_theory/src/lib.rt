@@ -1,5 +1,4 @@
-//! Fagin's algorithm, which the threshold algorithm is measured against: its definitions over whole tables, and the laws above
-//! them, with no code.
+//! Fagin's algorithm, which the threshold algorithm is measured against: definitions over whole tables, and laws, with no code.
 #![tactic(auto)]
 
 mod laws;

@@ -17,7 +17,7 @@ use Rattle.source_state.specs.Looking.{plan_of, Serves}
 use Rattle.source_pool.specs.Passes.{Feed, IsFeederOf, IsIdleOf, in_turn, turned}
 use Rattle.source_pool.proofs.TurnLaws.{marks_kept}
 use Rattle.fetcher.specs.Turning.{IsFound, HasSeen, Feeds, IsPlanned, IsFed, IsOfSource}
-use Rattle.fetcher.specs.Calling.{IsLooked, IsTold}
+use Rattle.fetcher.specs.Calling.{IsLooked, PutsEvent}
 use Rattle.fetcher.proofs.EventLaws.{event_want, event_asks}
 
 -- a state that the writer took
@@ -88,7 +88,7 @@ pub record EventTurn (event : Event) (before after : Feed) : Type 0 where
   pub source : after.source ≡ before.source
   pub feeds : Feeds before.pass.1 after.pass.1
   pub fed : IsFed event before.pass.1 after.pass.1
-  pub told : IsTold event before.pass.1 after.pass.1
+  pub told : PutsEvent event before.pass.1 after.pass.1
 
 pub event_turn : (event : Event) (before after : Feed) (s t : State) → IsOfSource event → ((state : State) → IsFound state before.pass.1 → MayCome state event)
     → after ≡ turned (facts_of s) (facts_of t) before → KnowsOf (facts_of s) before.pass.1 → HasAll (facts_of s) before.pass.1 → IsSound s

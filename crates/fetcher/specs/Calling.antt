@@ -45,7 +45,7 @@ pub record IsLooked (page ahead : ℕ) (before after : Known LogEntry) (next : P
   pub plans : next ≡ plan_of found page ahead
 
 -- one turn of the lock: the pass found a state, and gave it back with one more event
-pub record IsTold (event : Event) (before after : Known LogEntry) : Type 0 where
+pub record PutsEvent (event : Event) (before after : Known LogEntry) : Type 0 where
   pub found : State
   pub is : IsFound found before
   pub gave : after.gave ≡ before.gave ++ facts_of (events.after found event) ∷ []
@@ -55,14 +55,14 @@ pub record IsTold (event : Event) (before after : Known LogEntry) : Type 0 where
 pub record CalledForPage (from count : ℕ) (calls now : Option (List Call)) (before after : Known LogEntry) (turn : Turned) : Type 0 where
   pub answer : Result (List Row) Trouble
   pub called : now ≡ with_call (Call.Page from count answer) calls
-  pub told : IsTold (page_event answer) before after
+  pub told : PutsEvent (page_event answer) before after
   pub is : turn ≡ page_turned answer
 
 -- the source was called for the grade of this object and for nothing else, and its answer was told in one turn of the lock
 pub record CalledForGrade (object : ℕ) (calls now : Option (List Call)) (before after : Known LogEntry) (turn : Turned) : Type 0 where
   pub answer : Result (Option ℕ) Trouble
   pub called : now ≡ with_call (Call.Grade object answer) calls
-  pub told : IsTold (grade_event object answer) before after
+  pub told : PutsEvent (grade_event object answer) before after
   pub is : turn ≡ grade_turned object answer
 
 -- the source wasn't called, and no further turn of the lock was taken

@@ -9,7 +9,7 @@ ghost use Rattle.source_pool.specs.Passes.{IsIdleOf};
 ghost use Rattle.source_api.specs.Counting.{NoneFell, GaveNothing};
 ghost use Rattle.fetcher.specs.Turning.{IsFound, Feeds, IsPlanned, IsFed, Brings, MayTellPage, MayTellGrade, MayFetch, IsNext};
 ghost use Rattle.fetcher.specs.Turning.{settled_by, answer_by, troubled_by, IsOfSource};
-ghost use Rattle.fetcher.specs.Calling.{IsLooked, IsTold, CalledForPage, CalledForGrade, IsFetchTurn};
+ghost use Rattle.fetcher.specs.Calling.{IsLooked, PutsEvent, CalledForPage, CalledForGrade, IsFetchTurn};
 ghost use Rattle.fetcher.specs.Moving.{IsMovedAs};
 ghost use Rattle.fetcher.specs.Metering.{HasCountOf, counted_by};
 
@@ -49,7 +49,7 @@ fn tell(rt: &impl Wait, pool: &Pool, feeder: &mut Feeder, event: Event)
     ensures source { feeder.new.source ≡ feeder.old.source }
     ensures feeds { Feeds feeder.old.pass.1 feeder.new.pass.1 }
     ensures fed { IsFed event feeder.old.pass.1 feeder.new.pass.1 }
-    ensures told { IsTold event feeder.old.pass.1 feeder.new.pass.1 }
+    ensures told { PutsEvent event feeder.old.pass.1 feeder.new.pass.1 }
 {
     let mut state = pool.take(rt, feeder);
     // Serves the prover alone: `count` promises that the state is sound.
@@ -67,7 +67,7 @@ fn tell_page(rt: &impl Wait, pool: &Pool, feeder: &mut Feeder, rows: PageRows) -
     ensures source { feeder.new.source ≡ feeder.old.source }
     ensures feeds { Feeds feeder.old.pass.1 feeder.new.pass.1 }
     ensures fed { IsFed (Event.Page rows) feeder.old.pass.1 feeder.new.pass.1 }
-    ensures told { IsTold (Event.Page rows) feeder.old.pass.1 feeder.new.pass.1 }
+    ensures told { PutsEvent (Event.Page rows) feeder.old.pass.1 feeder.new.pass.1 }
     ensures answer { result ≡ Turned.Paged (length rows) }
 {
     let given = rows.len();
@@ -109,7 +109,7 @@ fn tell_grade(
     ensures source { feeder.new.source ≡ feeder.old.source }
     ensures feeds { Feeds feeder.old.pass.1 feeder.new.pass.1 }
     ensures fed { IsFed (settled_by object grade) feeder.old.pass.1 feeder.new.pass.1 }
-    ensures told { IsTold (settled_by object grade) feeder.old.pass.1 feeder.new.pass.1 }
+    ensures told { PutsEvent (settled_by object grade) feeder.old.pass.1 feeder.new.pass.1 }
     ensures answer { result ≡ answer_by object grade }
 {
     let event = event_of(object, grade);
@@ -141,7 +141,7 @@ fn tell_trouble(
     ensures source { feeder.new.source ≡ feeder.old.source }
     ensures feeds { Feeds feeder.old.pass.1 feeder.new.pass.1 }
     ensures fed { IsFed (troubled_by object trouble) feeder.old.pass.1 feeder.new.pass.1 }
-    ensures told { IsTold (troubled_by object trouble) feeder.old.pass.1 feeder.new.pass.1 }
+    ensures told { PutsEvent (troubled_by object trouble) feeder.old.pass.1 feeder.new.pass.1 }
     ensures answer { result ≡ Turned.Troubled trouble }
 {
     let event = trouble_event(object, trouble);

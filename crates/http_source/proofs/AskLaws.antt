@@ -12,7 +12,7 @@ use Rattle.source_api.specs.declared.source.Trouble.TheVariants.{Fail}
 use Rattle.source_api.specs.Counting.{IsNoMove}
 use Rattle.std.specs.Prelude.{IfErr}
 use Rattle.wire.specs.Responses.{AnswersResponse, IsReply}
-use Rattle.wire.specs.Told.{Counts}
+use Rattle.wire.specs.LinkTold.{Counts}
 use Rattle.wire.specs.declared.fault.WireFault.{WireFault}
 use Rattle.wire.specs.declared.fault.WireFault.TheVariants as wire
 use Rattle.wire.specs.declared.response.Reply.{Reply}

@@ -4,7 +4,7 @@ use Rattle.std.specs.Io.KnownBytes.{Appends}
 use Rattle.std.proofs.lemmas.List.{append-nil}
 use Rattle.tk_io.specs.Faults.{Rose}
 use Rattle.tk_io.specs.Whole.{TookFront}
-use Rattle.wire.specs.Told.{Counts}
+use Rattle.wire.specs.LinkTold.{Counts}
 use Rattle.wire.specs.declared.fault.WireFault.{WireFault}
 use Rattle.wire.specs.declared.fault.WireFault.TheVariants.{LinkFault, BadMessage, TooLong, Memory}
 use Rattle.wire.specs.declared.response.Reply.{Reply}

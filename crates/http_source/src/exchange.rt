@@ -4,7 +4,7 @@ ghost use Rattle.std.specs.Prelude.{◌≡◌, ◌≤◌, ◌+◌, ℕ, List, []
 ghost use Rattle.tk_io.specs.Links.{IsFresh};
 ghost use Rattle.source_api.specs.Counting.{IsNoMove};
 ghost use Rattle.wire.specs.Responses.{AnswersResponse};
-ghost use Rattle.wire.specs.Told.{Counts};
+ghost use Rattle.wire.specs.LinkTold.{Counts};
 ghost use Rattle.wire.specs.Writing.{request_text};
 ghost use Rattle.http_source.specs.Exchanges.{next_bytes, UsesLink, FailsWith, IsUnanswered};
 ghost use Rattle.http_source.specs.Asking.{TakesRequest, ok_body, body_in, AnswersBody};

@@ -12,7 +12,7 @@ use Rattle.std.proofs.lemmas.Option.{none-some, same_Some, slice_get_within, sli
 use Rattle.indexed_heap.specs.Ranks.{rank_at}
 use Rattle.indexed_heap.proofs.Getting.{get_set_same, get_set_other, get_last, get_before}
 use Rattle.indexed_heap.specs.declared.slots.Entry.{Entry}
-use Rattle.indexed_heap.specs.Slots.{HasNone, IsAt, IsLeast, reversed, Keeps}
+use Rattle.indexed_heap.specs.Slots.{HasNoSlot, IsAt, IsLeast, reversed, KeepsSlots}
 
 -- ---- reading after a write
 rank_same : (ranks : List (Option (Reverse ℕ))) (i : ℕ) (rank : Option (Reverse ℕ)) → i < length ranks → rank_at (set ranks i rank) i ≡ rank
@@ -26,25 +26,25 @@ flip apart = λ e. apart (sym e)
 
 -- ---- a key has one slot
 key_of_slot : (most capacity : ℕ) (entries : List Entry) (ranks : List (Option (Reverse ℕ))) (slots : List (Option ℕ)) (one other : ℕ) (a b : Entry)
-    → Keeps most capacity entries ranks slots → slice_get entries one ≡ Some a → slice_get entries other ≡ Some b → a.key ≡ b.key → one ≡ other
+    → KeepsSlots most capacity entries ranks slots → slice_get entries one ≡ Some a → slice_get entries other ≡ Some b → a.key ≡ b.key → one ≡ other
 key_of_slot most capacity entries ranks slots one other a b keeps at_one at_other same =
     same_Some one other (sym (keeps.slot one a at_one).1 ∙ ap (λ k. get_or slots k None) same ∙ (keeps.slot other b at_other).1)
 
 pub distinct_keys : (most capacity : ℕ) (entries : List Entry) (ranks : List (Option (Reverse ℕ))) (slots : List (Option ℕ))
-    → Keeps most capacity entries ranks slots → (one other : ℕ) (a b : Entry) → slice_get entries one ≡ Some a → slice_get entries other ≡ Some b
+    → KeepsSlots most capacity entries ranks slots → (one other : ℕ) (a b : Entry) → slice_get entries one ≡ Some a → slice_get entries other ≡ Some b
     → a.key ≡ b.key → one ≡ other
 distinct_keys most capacity entries ranks slots keeps = λ one other a b at_one at_other same. key_of_slot most capacity entries ranks slots one other a b keeps at_one at_other same
 
 -- the slot that is kept for a key, if there is one, has it
 pub slot_found : (most capacity : ℕ) (entries : List Entry) (ranks : List (Option (Reverse ℕ))) (slots : List (Option ℕ)) (key : ℕ) (found : Option ℕ)
-    → Keeps most capacity entries ranks slots → get_or slots key None ≡ found → MatchOption found (HasNone entries key) (IsAt entries key)
+    → KeepsSlots most capacity entries ranks slots → get_or slots key None ≡ found → MatchOption found (HasNoSlot entries key) (IsAt entries key)
 slot_found most capacity entries ranks slots key None keeps e = λ slot entry at same. none-some slot (sym e ∙ ap (λ k. get_or slots k None) (sym same) ∙ (keeps.slot slot entry at).1)
 slot_found most capacity entries ranks slots key (Some slot) keeps e = keeps.key key slot e
 
 -- ---- a further slot
 pub kept_added : (most capacity : ℕ) (entries : List Entry) (ranks : List (Option (Reverse ℕ))) (slots : List (Option ℕ)) (key rank : ℕ)
-    → Keeps most capacity entries ranks slots → key < length slots → HasNone entries key → length entries < most
-    → Keeps most capacity (entries ++ record { key = key; rank = rank } ∷ []) (set ranks (length entries) (Some (record { 0 = rank }))) (set slots key (Some (length entries)))
+    → KeepsSlots most capacity entries ranks slots → key < length slots → HasNoSlot entries key → length entries < most
+    → KeepsSlots most capacity (entries ++ record { key = key; rank = rank } ∷ []) (set ranks (length entries) (Some (record { 0 = rank }))) (set slots key (Some (length entries)))
 kept_added most capacity entries ranks slots key rank keeps lt absent free =
     let new : Entry = record { key = key; rank = rank } in
     let last : ℕ = length entries in
@@ -85,8 +85,8 @@ kept_added most capacity entries ranks slots key rank keeps lt absent free =
 
 -- ---- another rank
 pub kept_renewed : (most capacity : ℕ) (entries : List Entry) (ranks : List (Option (Reverse ℕ))) (slots : List (Option ℕ)) (at : ℕ) (old : Entry) (rank : ℕ)
-    → Keeps most capacity entries ranks slots → slice_get entries at ≡ Some old
-    → Keeps most capacity (set entries at (record { key = old.key; rank = rank })) (set ranks at (Some (record { 0 = rank }))) slots
+    → KeepsSlots most capacity entries ranks slots → slice_get entries at ≡ Some old
+    → KeepsSlots most capacity (set entries at (record { key = old.key; rank = rank })) (set ranks at (Some (record { 0 = rank }))) slots
 kept_renewed most capacity entries ranks slots at old rank keeps there =
     let new : Entry = record { key = old.key; rank = rank } in
     let lt : at < length entries = slice_get_within entries at old there in
@@ -122,8 +122,8 @@ kept_renewed most capacity entries ranks slots at old rank keeps there =
 -- ---- a key in place of another
 pub kept_replaced : (most capacity : ℕ) (entries : List Entry) (ranks : List (Option (Reverse ℕ))) (slots : List (Option ℕ)) (at : ℕ) (old : Entry)
     (key rank : ℕ)
-    → Keeps most capacity entries ranks slots → slice_get entries at ≡ Some old → key < length slots → HasNone entries key
-    → Keeps most capacity (set entries at (record { key = key; rank = rank })) (set ranks at (Some (record { 0 = rank }))) (set (set slots old.key None) key (Some at))
+    → KeepsSlots most capacity entries ranks slots → slice_get entries at ≡ Some old → key < length slots → HasNoSlot entries key
+    → KeepsSlots most capacity (set entries at (record { key = key; rank = rank })) (set ranks at (Some (record { 0 = rank }))) (set (set slots old.key None) key (Some at))
 kept_replaced most capacity entries ranks slots at old key rank keeps there within absent =
     let new : Entry = record { key = key; rank = rank } in
     let emptied : List (Option ℕ) = set slots old.key None in
@@ -174,14 +174,14 @@ kept_replaced most capacity entries ranks slots at old key rank keeps there with
 -- ---- what the calls keep, by the equations that they have
 pub added : (most capacity capacity_now : ℕ) (entries entries_now : List Entry) (ranks ranks_now : List (Option (Reverse ℕ))) (slots : List (Option ℕ))
     (key rank last : ℕ)
-    → Keeps most capacity entries ranks slots → key < length slots → HasNone entries key → length entries < most → last ≡ length entries → capacity ≤ capacity_now
+    → KeepsSlots most capacity entries ranks slots → key < length slots → HasNoSlot entries key → length entries < most → last ≡ length entries → capacity ≤ capacity_now
     → entries_now ≡ entries ++ record { key = key; rank = rank } ∷ [] → ranks_now ≡ set ranks last (Some (record { 0 = rank }))
-    → Keeps most capacity_now entries_now ranks_now (set slots key (Some last))
+    → KeepsSlots most capacity_now entries_now ranks_now (set slots key (Some last))
 added most capacity capacity_now entries entries_now ranks ranks_now slots key rank last keeps lt absent free is_last wider entries_are ranks_are =
     let k = kept_added most capacity entries ranks slots key rank keeps lt absent free in
-    let k1 : Keeps most capacity entries_now (set ranks (length entries) (Some (record { 0 = rank }))) (set slots key (Some (length entries))) = subst (λ es. Keeps most capacity es (set ranks (length entries) (Some (record { 0 = rank }))) (set slots key (Some (length entries)))) (sym entries_are) k in
-    let k2 : Keeps most capacity entries_now (set ranks last (Some (record { 0 = rank }))) (set slots key (Some last)) = subst (λ n. Keeps most capacity entries_now (set ranks n (Some (record { 0 = rank }))) (set slots key (Some n))) (sym is_last) k1 in
-    let k3 : Keeps most capacity entries_now ranks_now (set slots key (Some last)) = subst (λ rs. Keeps most capacity entries_now rs (set slots key (Some last))) (sym ranks_are) k2 in
+    let k1 : KeepsSlots most capacity entries_now (set ranks (length entries) (Some (record { 0 = rank }))) (set slots key (Some (length entries))) = subst (λ es. KeepsSlots most capacity es (set ranks (length entries) (Some (record { 0 = rank }))) (set slots key (Some (length entries)))) (sym entries_are) k in
+    let k2 : KeepsSlots most capacity entries_now (set ranks last (Some (record { 0 = rank }))) (set slots key (Some last)) = subst (λ n. KeepsSlots most capacity entries_now (set ranks n (Some (record { 0 = rank }))) (set slots key (Some n))) (sym is_last) k1 in
+    let k3 : KeepsSlots most capacity entries_now ranks_now (set slots key (Some last)) = subst (λ rs. KeepsSlots most capacity entries_now rs (set slots key (Some last))) (sym ranks_are) k2 in
     record {
       few = k3.few;
       small = k3.small;
@@ -199,19 +199,19 @@ at_slot entries slot read lt is = slice_get-get_or entries slot read lt ∙ ap (
 
 pub renewed : (most capacity : ℕ) (entries : List Entry) (ranks ranks_now : List (Option (Reverse ℕ))) (slots : List (Option ℕ)) (at : ℕ) (old : Entry)
     (rank : ℕ)
-    → Keeps most capacity entries ranks slots → at < length entries → old ≡ get_or entries at old → ranks_now ≡ set ranks at (Some (record { 0 = rank }))
-    → Keeps most capacity (set entries at (record { key = old.key; rank = rank })) ranks_now slots
+    → KeepsSlots most capacity entries ranks slots → at < length entries → old ≡ get_or entries at old → ranks_now ≡ set ranks at (Some (record { 0 = rank }))
+    → KeepsSlots most capacity (set entries at (record { key = old.key; rank = rank })) ranks_now slots
 renewed most capacity entries ranks ranks_now slots at old rank keeps lt is ranks_are =
-    subst (λ rs. Keeps most capacity (set entries at (record { key = old.key; rank = rank })) rs slots) (sym ranks_are)
+    subst (λ rs. KeepsSlots most capacity (set entries at (record { key = old.key; rank = rank })) rs slots) (sym ranks_are)
     (kept_renewed most capacity entries ranks slots at old rank keeps (at_slot entries at old lt is))
 
 pub replaced : (most capacity : ℕ) (entries : List Entry) (ranks ranks_now : List (Option (Reverse ℕ))) (slots : List (Option ℕ)) (at : ℕ) (old : Entry)
     (key rank : ℕ)
-    → Keeps most capacity entries ranks slots → at < length entries → old ≡ get_or entries at old → key < length slots → HasNone entries key
+    → KeepsSlots most capacity entries ranks slots → at < length entries → old ≡ get_or entries at old → key < length slots → HasNoSlot entries key
     → ranks_now ≡ set ranks at (Some (record { 0 = rank }))
-    → Keeps most capacity (set entries at (record { key = key; rank = rank })) ranks_now (set (set slots old.key None) key (Some at))
+    → KeepsSlots most capacity (set entries at (record { key = key; rank = rank })) ranks_now (set (set slots old.key None) key (Some at))
 replaced most capacity entries ranks ranks_now slots at old key rank keeps lt is within absent ranks_are =
-    subst (λ rs. Keeps most capacity (set entries at (record { key = key; rank = rank })) rs (set (set slots old.key None) key (Some at))) (sym ranks_are)
+    subst (λ rs. KeepsSlots most capacity (set entries at (record { key = key; rank = rank })) rs (set (set slots old.key None) key (Some at))) (sym ranks_are)
     (kept_replaced most capacity entries ranks slots at old key rank keeps (at_slot entries at old lt is) within absent)
 
 -- ---- the least
@@ -223,7 +223,7 @@ pub no_greater : (a b : ℕ) → nat_cmp a b ≢ Greater → a ≤ b
 no_greater a b none = elim (cases_lt b a) [ inl lt ↦ absurd (none (sym (nat_cmp_is a b Greater lt))) | inr upto ↦ upto ]
 
 pub least_found : (most capacity : ℕ) (entries : List Entry) (ranks : List (Option (Reverse ℕ))) (slots : List (Option ℕ)) (slot : ℕ) (rank : Reverse ℕ)
-    → Keeps most capacity entries ranks slots → rank_at ranks slot ≡ Some rank
+    → KeepsSlots most capacity entries ranks slots → rank_at ranks slot ≡ Some rank
     → ((other : ℕ) (another : Reverse ℕ) → rank_at ranks other ≡ Some another → nat_cmp rank.0 another.0 ≢ Greater) → IsLeast entries slot
 least_found most capacity entries ranks slots slot rank keeps there none_above =
     let own = known_entry (slice_get entries slot) rank (sym (keeps.ranked slot) ∙ there) in
@@ -237,7 +237,7 @@ least_found most capacity entries ranks slots slot rank keeps there none_above =
     }
 
 pub none_found : (most capacity : ℕ) (entries : List Entry) (ranks : List (Option (Reverse ℕ))) (slots : List (Option ℕ))
-    → Keeps most capacity entries ranks slots → ((slot : ℕ) → rank_at ranks slot ≡ None) → entries ≡ []
+    → KeepsSlots most capacity entries ranks slots → ((slot : ℕ) → rank_at ranks slot ≡ None) → entries ≡ []
 none_found most capacity [] ranks slots keeps none = refl
 none_found most capacity (first ∷ rest) ranks slots keeps none = absurd (none-some (reversed first) (sym (none zero) ∙ keeps.ranked zero))
 

@@ -13,8 +13,8 @@ pub record Slots : Type 0 where
   pub entries : List Entry
 
 -- no slot has the key
-abbrev pub HasNone : List Entry → ℕ → Type 0
-HasNone entries key = (slot : ℕ) (entry : Entry) → slice_get entries slot ≡ Some entry → entry.key ≢ key
+abbrev pub HasNoSlot : List Entry → ℕ → Type 0
+HasNoSlot entries key = (slot : ℕ) (entry : Entry) → slice_get entries slot ≡ Some entry → entry.key ≢ key
 
 -- the slot has the key
 abbrev pub IsAt : List Entry → ℕ → ℕ → Type 0
@@ -43,7 +43,7 @@ abbrev pub reversed : Entry → Reverse ℕ
 reversed entry = record { 0 = entry.rank }
 
 -- what is kept
-pub record Keeps (most capacity : ℕ) (entries : List Entry) (ranks : List (Option (Reverse ℕ))) (slots : List (Option ℕ)) : Type 0 where
+pub record KeepsSlots (most capacity : ℕ) (entries : List Entry) (ranks : List (Option (Reverse ℕ))) (slots : List (Option ℕ)) : Type 0 where
   pub few : most ≤ MAX_OBJECTS
   pub small : length slots ≤ MAX_OBJECTS
   pub reserved : most ≤ capacity

@@ -1,7 +1,7 @@
 //! The slots.
 
 ghost use Rattle.std.specs.Prelude.{◌≡◌, ◌<◌, ◌≤◌, [], ◌∷◌, ◌++◌, length, slice_get, slice_set, MatchOption, IfOk, Some};
-ghost use Rattle.indexed_heap.specs.Slots.{HasNone, IsAt, IsLeast, AreDistinctKeys, IsRenewed};
+ghost use Rattle.indexed_heap.specs.Slots.{HasNoSlot, IsAt, IsLeast, AreDistinctKeys, IsRenewed};
 
 use super::Memory;
 use super::heap::IndexedHeap;
@@ -30,13 +30,13 @@ pub struct RankedSlots {
 
 impl Model for RankedSlots {
     ghost use Rattle.std.specs.Prelude.{length, vec_capacity};
-    ghost use Rattle.indexed_heap.specs.Slots.{Slots, Keeps};
+    ghost use Rattle.indexed_heap.specs.Slots.{Slots, KeepsSlots};
 
     ghost Value = { Slots };
 
     ghost view = { λ a. record { most = a.most; room = length a.slots.items; entries = a.entries.items } };
 
-    ghost invariant = { λ a. Keeps a.most (vec_capacity a.entries) a.entries.items a.ranks a.slots.items };
+    ghost invariant = { λ a. KeepsSlots a.most (vec_capacity a.entries) a.entries.items a.ranks a.slots.items };
 }
 
 impl RankedSlots {
@@ -87,7 +87,7 @@ impl RankedSlots {
     /// *Cost*: constant.
     pub fn slot(&self, key: u32) -> Option<u32>
         requires { key < self.now.room }
-        ensures { MatchOption result (HasNone self.now.entries key) (IsAt self.now.entries key) }
+        ensures { MatchOption result (HasNoSlot self.now.entries key) (IsAt self.now.entries key) }
     {
         self.slots[key as usize]
     }
@@ -109,7 +109,7 @@ impl RankedSlots {
     /// *Cost*: logarithmic in the slots.
     pub fn add(&mut self, key: u32, rank: u64)
         requires within { key < self.old.room }
-        requires absent { HasNone self.old.entries key }
+        requires absent { HasNoSlot self.old.entries key }
         requires free { length self.old.entries < self.old.most }
         ensures added { self.new
             ≡ record self.old { entries = self.old.entries ++ record { key = key; rank = rank } ∷ [] } }
@@ -140,7 +140,7 @@ impl RankedSlots {
     pub fn replace(&mut self, slot: u32, key: u32, rank: u64) -> u32
         requires slot { slot < length self.old.entries }
         requires within { key < self.old.room }
-        requires absent { HasNone self.old.entries key }
+        requires absent { HasNoSlot self.old.entries key }
         ensures leaves { IsAt self.old.entries result slot }
         ensures replaced { self.new
             ≡ record self.old { entries = slice_set self.old.entries slot (record { key = key; rank = rank }) } }

@@ -1,7 +1,6 @@
-//! Whether a transcript fixes an answer, or how near it is to the best, on every table that agrees with it, and where it does
-//! not, a table on which the answer is beaten.
+//! Whether a transcript fixes an answer, or how near it is to the best, on every table that agrees with it.
 //!
-//! On that table an object of the answer has its low and every other object its high.
+//! Where it doesn't fix it, there is a table on which the answer is beaten: an object of the answer has its low there, and every other object its high.
 #![tactic(auto)]
 
 mod bound;

@@ -35,7 +35,7 @@ pub(crate) fn first_wild_guess(transcript: &Transcript) -> Option<u64>
 {
     let mut seen = 0;
     for (place, access) in transcript.iter().enumerate() {
-        let sight = transcript.place_of(access.object());
+        let sight = transcript.sight_of(access.object());
         let Some(after) = seen_after(sight, seen, access.is_sorted()) else {
             return Some(place as u64 + 1);
         };

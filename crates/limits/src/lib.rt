@@ -1,5 +1,6 @@
-//! The limits of topk, each stated once, the settings of a run within them, and `Memory`, the error of a call that gets no memory: every other
-//! crate cites them from here.
+//! The limits of topk, the settings of a run within them, and `Memory`, the error of a call that gets no memory.
+//!
+//! Each is stated once, and every other crate cites it from here.
 #![tactic(auto)]
 
 mod memory;

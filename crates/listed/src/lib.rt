@@ -1,4 +1,6 @@
-//! Values in order, which contracts see as their list. It takes the place of a struct with a model for each kind of value.
+//! Values in order, which contracts see as their list.
+//!
+//! They take the place of a struct with a model for each kind of value.
 #![tactic(auto)]
 
 ghost use Rattle.std.specs.Prelude.{◌≡◌, ◌==◌, ◌<◌, ◌^◌, length, slice_get, vec_len};

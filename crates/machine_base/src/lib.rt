@@ -1,6 +1,7 @@
-//! What the machines of all algorithms share: what contracts see of one (`specs/Machine.antt`), the query and
-//! the transcript that it holds, the test of room at a row, why it refuses one, which unknown grade of
-//! objects is asked next (`ask_from`), what it ends with, and the calls by which anything drives it (`Driven`).
+//! What the machines of all algorithms share: their query and transcript, and the calls by which anything drives one (`Driven`).
+//!
+//! What contracts see of a machine stands in `specs/Machine.antt`. The test of room at a row, why a query is refused there, which unknown grade of
+//! objects is asked next (`ask_from`) and what a query ends with are the same for all.
 #![tactic(auto)]
 
 mod answer;

@@ -1,4 +1,6 @@
-//! Tables and queries that are made from a number, the same ones wherever they are made. Queries are over lists named `l1`, `l2` and so on.
+//! Tables and queries that are made from a number, the same ones wherever they are made.
+//!
+//! Queries are over lists named `l1`, `l2` and so on.
 #![tactic(auto)]
 
 mod expression;

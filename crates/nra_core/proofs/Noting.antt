@@ -12,7 +12,7 @@ use Rattle.topk_theory.specs.Bounds.{low, high}
 use Rattle.access_log.specs.Log.{Log, IsConsistent}
 use Rattle.access_log.proofs.RecordKept.{placed}
 use Rattle.indexed_heap.specs.declared.slots.Entry.{Entry}
-use Rattle.indexed_heap.specs.Slots.{Slots, HasNone, IsAt, IsLeast, AreDistinctKeys, IsRenewed}
+use Rattle.indexed_heap.specs.Slots.{Slots, HasNoSlot, IsAt, IsLeast, AreDistinctKeys, IsRenewed}
 use Rattle.nra_core.specs.Late.{AreNextBounds}
 use Rattle.nra_core.proofs.Renewed.{next_bounds}
 use Rattle.nra_core.specs.declared.late.LateBounds.{LateBounds}
@@ -51,7 +51,7 @@ member_told V k m A a first candidates slot place old B o told named =
 abbrev NotesFew : (List ℕ → ℕ) → ℕ → ℕ → List Access → Slots → List (Option ℕ) → ℕ → List Access → ℕ → Type 0
 NotesFew V k m A first candidates place B o =
     AreNext V m A B o → Contains (seen_objects B) o → length (seen_objects B) ≤ first.room → IsLate V k m A first candidates
-    → length first.entries < k → HasNone first.entries place → slice_get (seen_objects B) place ≡ Some o
+    → length first.entries < k → HasNoSlot first.entries place → slice_get (seen_objects B) place ≡ Some o
     → AreDistinctKeys (first.entries ++ record { key = place; rank = low V m B o } ∷ [])
     → IsLate V k m B (record first { entries = first.entries ++ record { key = place; rank = low V m B o } ∷ [] }) candidates
 
@@ -65,7 +65,7 @@ few_told V k m A a first candidates place B o told named =
 abbrev NotesOutside : (List ℕ → ℕ) → ℕ → ℕ → List Access → Slots → List (Option ℕ) → ℕ → ℕ → List Access → ℕ → Type 0
 NotesOutside V k m A first candidates place slot B o =
     AreNext V m A B o → Contains (seen_objects B) o → length (seen_objects B) ≤ first.room → IsLate V k m A first candidates
-    → k ≤ length first.entries → HasNone first.entries place → slice_get (seen_objects B) place ≡ Some o
+    → k ≤ length first.entries → HasNoSlot first.entries place → slice_get (seen_objects B) place ≡ Some o
     → (least : IsLeast first.entries slot) → low V m B o ≤ least.entry.rank
     → IsLate V k m B first (set candidates place (Some (high V m B o)))
 
@@ -80,7 +80,7 @@ outside_told V k m A a first candidates place slot B o told named =
 abbrev NotesKnown : (List ℕ → ℕ) → ℕ → ℕ → List Access → Slots → List (Option ℕ) → ℕ → ℕ → List Access → ℕ → Type 0
 NotesKnown V k m A first candidates place slot B o =
     AreNext V m A B o → Contains (seen_objects B) o → length (seen_objects B) ≤ first.room → IsLate V k m A first candidates
-    → k ≤ length first.entries → HasNone first.entries place → slice_get (seen_objects B) place ≡ Some o → place < length (seen_objects A)
+    → k ≤ length first.entries → HasNoSlot first.entries place → slice_get (seen_objects B) place ≡ Some o → place < length (seen_objects A)
     → (least : IsLeast first.entries slot) → low V m B o ≤ least.entry.rank → IsLate V k m B first candidates
 
 known_told : (V : List ℕ → ℕ) (k m : ℕ) (A : List Access) (a : Access) (first : Slots) (candidates : List (Option ℕ)) (place slot : ℕ) (B : List Access) (o : ℕ)
@@ -93,7 +93,7 @@ known_told V k m A a first candidates place slot B o told named =
 abbrev NotesExchange : (List ℕ → ℕ) → ℕ → ℕ → List Access → Slots → List (Option ℕ) → ℕ → ℕ → ℕ → List Access → ℕ → Type 0
 NotesExchange V k m A first candidates place slot left B o =
     AreNext V m A B o → Contains (seen_objects B) o → length (seen_objects B) ≤ first.room → IsLate V k m A first candidates
-    → k ≤ length first.entries → HasNone first.entries place → slice_get (seen_objects B) place ≡ Some o
+    → k ≤ length first.entries → HasNoSlot first.entries place → slice_get (seen_objects B) place ≡ Some o
     → (least : IsLeast first.entries slot) → least.entry.rank ≤ low V m B o → slice_get (seen_objects B) least.entry.key ≡ Some left
     → AreDistinctKeys (set first.entries slot (record { key = place; rank = low V m B o }))
     → IsLate V k m B (record first { entries = set first.entries slot (record { key = place; rank = low V m B o }) }) (set (set candidates place None) least.entry.key (Some (high V m B left)))
@@ -136,7 +136,7 @@ note_member e log object late place slot low_now seen_now after agrees was at is
 
 -- fewer than k were seen
 pub note_few : (e : Tree) (log : Log) (object : ℕ) (late : LateBounds) (place low_now seen_now : ℕ) (after : Slots) → IsConsistent log
-    → (was : WasLate e log object late) → position (nat_eq object) (seen_objects log.accesses) ≡ Some place → HasNone late.first.entries place
+    → (was : WasLate e log object late) → position (nat_eq object) (seen_objects log.accesses) ≡ Some place → HasNoSlot late.first.entries place
     → seen_now ≡ length (seen_objects log.accesses) → low_now ≡ low (value e) log.lists log.accesses object → length late.first.entries < late.k
     → after ≡ record late.first { entries = late.first.entries ++ record { key = place; rank = low_now } ∷ [] } → AreDistinctKeys after.entries
     → IsLateAfter e log.lists log.accesses (record { k = late.k; seen = seen_now; first = after; candidates = late.candidates })
@@ -156,7 +156,7 @@ note_few e log object late place low_now seen_now after agrees was at none seen_
 -- its low isn't above the least, and it is new
 pub note_outside : (e : Tree) (log : Log) (object : ℕ) (late : LateBounds) (place slot low_now high_now seen_now : ℕ) (got : Entry) (after : List (Option ℕ))
     → IsConsistent log
-    → (was : WasLate e log object late) → position (nat_eq object) (seen_objects log.accesses) ≡ Some place → HasNone late.first.entries place
+    → (was : WasLate e log object late) → position (nat_eq object) (seen_objects log.accesses) ≡ Some place → HasNoSlot late.first.entries place
     → seen_now ≡ length (seen_objects log.accesses) → low_now ≡ low (value e) log.lists log.accesses object → late.k ≤ length late.first.entries
     → IsLeast late.first.entries slot → slice_get late.first.entries slot ≡ Some got → low_now ≤ got.rank
     → high_now ≡ high (value e) log.lists log.accesses object → after ≡ set late.candidates place (Some high_now)
@@ -175,7 +175,7 @@ note_outside e log object late place slot low_now high_now seen_now got after ag
 
 -- its low isn't above the least, and it was seen before
 pub note_known : (e : Tree) (log : Log) (object : ℕ) (late : LateBounds) (place slot low_now seen_now : ℕ) (got : Entry) → IsConsistent log
-    → (was : WasLate e log object late) → position (nat_eq object) (seen_objects log.accesses) ≡ Some place → HasNone late.first.entries place
+    → (was : WasLate e log object late) → position (nat_eq object) (seen_objects log.accesses) ≡ Some place → HasNoSlot late.first.entries place
     → seen_now ≡ length (seen_objects log.accesses) → low_now ≡ low (value e) log.lists log.accesses object → late.k ≤ length late.first.entries
     → IsLeast late.first.entries slot → slice_get late.first.entries slot ≡ Some got → low_now ≤ got.rank → place < late.seen
     → IsLateAfter e log.lists log.accesses (record { k = late.k; seen = seen_now; first = late.first; candidates = late.candidates })
@@ -193,7 +193,7 @@ note_known e log object late place slot low_now seen_now got agrees was at none 
 -- its low is above the least, whose place it takes
 pub note_exchange : (e : Tree) (log : Log) (object : ℕ) (late : LateBounds) (place slot low_now high_left left leaves seen_now : ℕ) (got : Entry)
     (after : Slots) (emptied candidates : List (Option ℕ)) → IsConsistent log
-    → (was : WasLate e log object late) → position (nat_eq object) (seen_objects log.accesses) ≡ Some place → HasNone late.first.entries place
+    → (was : WasLate e log object late) → position (nat_eq object) (seen_objects log.accesses) ≡ Some place → HasNoSlot late.first.entries place
     → seen_now ≡ length (seen_objects log.accesses) → low_now ≡ low (value e) log.lists log.accesses object → late.k ≤ length late.first.entries
     → IsLeast late.first.entries slot → slice_get late.first.entries slot ≡ Some got → got.rank < low_now
     → IsAt late.first.entries leaves slot → after ≡ record late.first { entries = set late.first.entries slot (record { key = place; rank = low_now }) } → AreDistinctKeys after.entries

@@ -12,7 +12,7 @@ use Rattle.topk_theory.proofs.AgreementLists.{contains_nil, contains_cases, slic
 use Rattle.access_log.proofs.RecordKept.{placed, not_placed, place_of_absent}
 use Rattle.indexed_heap.specs.Ranks.{rank_at}
 use Rattle.indexed_heap.specs.declared.slots.Entry.{Entry}
-use Rattle.indexed_heap.specs.Slots.{HasNone, AreDistinctKeys}
+use Rattle.indexed_heap.specs.Slots.{HasNoSlot, AreDistinctKeys}
 use Rattle.indexed_heap.proofs.Getting.{get_last, get_before, get_set_same, get_set_other}
 use Rattle.nra_core.specs.Late.{AreApart, with_one, without, exchanged}
 use Rattle.nra_core.proofs.SetCounts.{with_itself, with_other, without_itself, without_other}
@@ -129,7 +129,7 @@ has_slot (first ∷ rest) place t =
       | inr there ↦ (let r = has_slot rest place there in (suc r.0, r.1, r.2, r.3))
     ]
 
-pub none_has : (entries : List Entry) (place : ℕ) → HasNone entries place → has_place entries place ≡ false
+pub none_has : (entries : List Entry) (place : ℕ) → HasNoSlot entries place → has_place entries place ≡ false
 none_has entries place none =
     elim (cases_Bool (has_place entries place)) [
       | inl t ↦ absurd (let r = has_slot entries place t in none r.0 r.1 r.2 r.3)
@@ -162,7 +162,7 @@ has_renewed entries slot old new place at same =
 
 -- the other slots have other places
 pub has_replaced : (entries : List Entry) (slot : ℕ) (old new : Entry) (place : ℕ) → AreDistinctKeys entries → slice_get entries slot ≡ Some old
-    → HasNone entries new.key → has_place (set entries slot new) place ≡ exchanged (has_place entries) old.key new.key place
+    → HasNoSlot entries new.key → has_place (set entries slot new) place ≡ exchanged (has_place entries) old.key new.key place
 has_replaced entries slot old new place distinct at absent =
     let lt = slice_get_within entries slot old at in
     let now = set entries slot new in

@@ -12,7 +12,7 @@ use Rattle.topk_theory.proofs.Agreement.{seen_distinct}
 use Rattle.access_log.proofs.RecordKept.{placed}
 use Rattle.indexed_heap.specs.Ranks.{rank_at}
 use Rattle.indexed_heap.specs.declared.slots.Entry.{Entry}
-use Rattle.indexed_heap.specs.Slots.{Slots, HasNone, AreDistinctKeys}
+use Rattle.indexed_heap.specs.Slots.{Slots, HasNoSlot, AreDistinctKeys}
 use Rattle.indexed_heap.proofs.Getting.{get_set_same, get_set_other}
 use Rattle.nra_core.specs.Late.{IsLeastLow, AreOthersWithin, without, exchanged}
 use Rattle.nra_core.proofs.Members.{exchange_least}
@@ -107,7 +107,7 @@ walked_given_up V k m A bound first candidates from place object kept walks at t
 -- ---- a candidate whose low is the bound takes the place of one that is to leave
 pub walked_exchanged : (V : List ℕ → ℕ) (k m : ℕ) (A : List Access) (bound : ℕ) (first : Slots) (candidates : List (Option ℕ)) (from slot place object kept : ℕ)
     → Walks V k m A bound first candidates from → rank_at candidates place ≡ Some kept → slice_get (seen_objects A) place ≡ Some object → bound < high V m A object
-    → bound ≤ low V m A object → GivesPlace V m A bound first.entries from slot → HasNone first.entries place
+    → bound ≤ low V m A object → GivesPlace V m A bound first.entries from slot → HasNoSlot first.entries place
     → AreDistinctKeys (set first.entries slot (record { key = place; rank = bound }))
     → Walks V k m A bound (record first { entries = set first.entries slot (record { key = place; rank = bound }) }) (set candidates place None) (slot + 1)
 walked_exchanged V k m A bound first candidates from slot place object kept walks at there above no_less gives none distinct =

@@ -13,7 +13,7 @@ use Rattle.topk_theory.proofs.Agreement.{seen_distinct}
 use Rattle.access_log.specs.Log.{Log}
 use Rattle.indexed_heap.specs.Ranks.{rank_at}
 use Rattle.indexed_heap.specs.declared.slots.Entry.{Entry}
-use Rattle.indexed_heap.specs.Slots.{Slots, HasNone, AreDistinctKeys}
+use Rattle.indexed_heap.specs.Slots.{Slots, HasNoSlot, AreDistinctKeys}
 use Rattle.indexed_heap.proofs.SlotChanges.{no_greater}
 use Rattle.nra_core.specs.Late.{IsLeastLow, AreOthersWithin}
 use Rattle.nra_core.specs.Quiet.{is_quiet_seen}
@@ -62,7 +62,7 @@ one_against V k m A bound start first before candidates from place object kept l
 
 -- a candidate has no slot
 pub candidate_absent : (V : List ℕ → ℕ) (k m : ℕ) (A : List Access) (first : Slots) (candidates : List (Option ℕ)) (place object kept : ℕ)
-    → IsLate V k m A first candidates → rank_at candidates place ≡ Some kept → slice_get (seen_objects A) place ≡ Some object → HasNone first.entries place
+    → IsLate V k m A first candidates → rank_at candidates place ≡ Some kept → slice_get (seen_objects A) place ≡ Some object → HasNoSlot first.entries place
 candidate_absent V k m A first candidates place object kept late at there = λ slot entry here same.
     let apart = (late.keeps.apart object (candidate_at A candidates place object kept at there)).1 in
     let has : has_place first.entries place ≡ true = subst (λ q. has_place first.entries q ≡ true) same (has_from first.entries slot entry here) in

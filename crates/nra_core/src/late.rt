@@ -78,7 +78,7 @@ impl LateBounds {
         ensures room { self.new.first.room ≡ self.old.first.room }
         ensures kept { KeepsLate expr.now transcript.now self.new }
     {
-        let Some(place) = transcript.place_of(object) else {
+        let Some(place) = transcript.sight_of(object) else {
             return;
         };
         let is_new = place >= self.seen;

@@ -1,8 +1,7 @@
-//! The algorithm without random access of Fagin, Lotem and Naor, as a machine that is fed one row at a
-//! time. It answers from sorted access alone, with true bounds in place of exact aggregates.
+//! The algorithm without random access of Fagin, Lotem and Naor, as a machine that is fed one row at a time.
 //!
-//! Its bounds are renewed late: `LateBounds` keeps the k seen objects with the greatest lows, and the candidates
-//! that may stand against the stop. The laws say, over whole tables and transcripts and with no code, what has to be
+//! It answers from sorted access alone, with true bounds in place of exact aggregates, which are renewed late: `LateBounds` keeps the k seen objects with
+//! the greatest lows, and the candidates that may stand against the stop. The laws say, over whole tables and transcripts and with no code, what has to be
 //! kept of the seen objects so that the stop is decided exactly and the answer is read at the end.
 #![tactic(auto)]
 

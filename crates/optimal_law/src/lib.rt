@@ -1,5 +1,4 @@
-//! How near the best the algorithms of Fagin, Lotem and Naor read: laws over whole tables and
-//! transcripts, with no code.
+//! How near the best the algorithms of Fagin, Lotem and Naor read: laws over whole tables and transcripts, with no code.
 #![tactic(auto)]
 
 mod laws;

@@ -24,7 +24,7 @@ use Rattle.query_server.specs.declared.server.Served.{Served}
 use Rattle.query_server.specs.declared.server.Served.TheVariants.{Ended, PortFault as AtFault, Memory as NoMemory}
 use Rattle.call_ends.specs.Shelves.{Shelf}
 use Rattle.port_calls.specs.Ports.{Ports}
-use Rattle.port_calls.specs.Opening.{Borrows, BorrowsAll, IsOneOf, entry_of, every, OpensAll}
+use Rattle.port_calls.specs.Opening.{BorrowsSome, BorrowsAll, IsOneOf, entry_of, every, OpensAll}
 use Rattle.port_calls.specs.ServeEnds.{EndsLists, ServesPort}
 
 -- each entry of a catalog is marked, and nothing else
@@ -133,7 +133,7 @@ pub borrows : (catalog : List Entry) (before mid now : Shelf) (openings : List O
     → length counts ≡ length s.places → AreOpened before.lists before.versions catalog (IsOneOf catalog) before.at mid.at openings s
     → AsksEachAtMostOnce catalog (every catalog) before.at mid.at
     → PutsBack (reverse (put_back catalog s.places counts)) mid.at now.at → KeepsOthers catalog (Contains s.places) mid.at now.at
-    → Borrows catalog before now
+    → BorrowsSome catalog before now
 borrows catalog before mid now openings s counts t l v t_now l_now v_now many are few back others =
     let moves = run_moves before.lists before.versions catalog (IsOneOf catalog) before.at mid.at now.at openings s counts many are back in
     record {
@@ -144,7 +144,7 @@ borrows catalog before mid now openings s counts t l v t_now l_now v_now many ar
       others = back_keeps before.lists before.versions catalog (IsOneOf catalog) before.at mid.at now.at openings s are others;
     }
 
-pub borrows_all : (catalog : List Entry) (before mid now : Shelf) (back : List Used) → Borrows catalog before now
+pub borrows_all : (catalog : List Entry) (before mid now : Shelf) (back : List Used) → BorrowsSome catalog before now
     → AsksEachOnce catalog (every catalog) before.at mid.at → PutsBack back mid.at now.at → BorrowsAll catalog before now
 borrows_all catalog before mid now back b once puts =
     record { borrows = b; once = once_back catalog (every catalog) back before.at mid.at now.at once puts }
@@ -197,7 +197,7 @@ pub borrows_from : {S : Type 0} (count : S → Counts) (catalog other : List Ent
     → AreOpened before.lists before.versions catalog (IsOneOf catalog) before.at mid.at openings s
     → AsksEachAtMostOnce catalog (every catalog) before.at mid.at
     → PutsBack (reverse (put_back other places (map (of_slot count) slots))) mid.at now.at → KeepsOthers other (Contains places) mid.at now.at
-    → length slots ≡ length s.places → Borrows catalog before now
+    → length slots ≡ length s.places → BorrowsSome catalog before now
 borrows_from count catalog other before mid now openings s places slots same at t l v t_now l_now v_now are few back others many =
     borrows catalog before mid now openings s (map (of_slot count) slots) t l v t_now l_now v_now (length-map slots (of_slot count) ∙ many) are few
     (subst (λ cat. PutsBack (reverse (put_back cat s.places (map (of_slot count) slots))) mid.at now.at) same

@@ -23,7 +23,7 @@ abbrev pub IsOneOf : List Entry → ℕ → Type 0
 IsOneOf catalog entry = entry < length catalog
 
 -- sources of the lists of a catalog were asked of a shelf, each at most once, and all that it gave were put back; nothing was counted at other places
-pub record Borrows (catalog : List Entry) (before now : Shelf) : Type 0 where
+pub record BorrowsSome (catalog : List Entry) (before now : Shelf) : Type 0 where
   pub tells : TellsTheSame before now
   pub used : List Used
   pub moves : Moves used before.at now.at
@@ -32,7 +32,7 @@ pub record Borrows (catalog : List Entry) (before now : Shelf) : Type 0 where
 
 -- and each was asked for once
 pub record BorrowsAll (catalog : List Entry) (before now : Shelf) : Type 0 where
-  pub borrows : Borrows catalog before now
+  pub borrows : BorrowsSome catalog before now
   pub once : AsksEachOnce catalog (every catalog) before.at now.at
 
 -- the source of each list of a catalog was opened, and this became of the lists: one is open, or too large, by what its source states, and not open where

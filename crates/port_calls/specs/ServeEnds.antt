@@ -17,17 +17,17 @@ use Rattle.catalog_run.specs.RunEnds.{from_shelf}
 use Rattle.port_calls.specs.NodeEnds.{NoCatalog, AskedNothing}
 use Rattle.port_calls.specs.NodeTexts.{served_text}
 use Rattle.port_calls.specs.Ports.{Ports, KeepsPort}
-use Rattle.port_calls.specs.Opening.{Borrows, BorrowsAll, OpensAll}
+use Rattle.port_calls.specs.Opening.{BorrowsSome, BorrowsAll, OpensAll}
 
 -- the port failed to listen: no link was taken
-pub record ListenFailed (p : Ports) : Type 0 where
+pub record ServeListenFailed (p : Ports) : Type 0 where
   pub links : p.after.links ≡ p.before.links
   pub rose : Rose p.before.faults p.after.faults
 
 -- so many links of a port were taken to be served, as many as are asked for or as come; or the port failed; want of memory is free
 abbrev pub ServesPort : ℕ → Ports → Served → Type 0
 ServesPort conns p (Ended count) = TookAll conns p.before.links p.after.links p.before.faults p.after.faults count
-ServesPort conns p AtFault = ListenFailed p ⊎ TookSome conns p.before.links p.after.links p.before.faults p.after.faults
+ServesPort conns p AtFault = ServeListenFailed p ⊎ TookSome conns p.before.links p.after.links p.before.faults p.after.faults
 ServesPort conns p NoMemory = ⊤
 
 -- the sources of a catalog were taken, which says what became of the lists, and put back, and between the two the port was served; want of memory says
@@ -41,7 +41,7 @@ pub record ServesThem (conns : ℕ) (catalog : List Entry) (before now : Shelf) 
 abbrev pub EndsLists : ℕ → List Entry → Shelf → Shelf → Ports → Served → Type 0
 EndsLists conns catalog before now p (Ended count) = ServesThem conns catalog before now p (Ended count)
 EndsLists conns catalog before now p AtFault = ServesThem conns catalog before now p AtFault
-EndsLists conns catalog before now p NoMemory = Borrows catalog before now
+EndsLists conns catalog before now p NoMemory = BorrowsSome catalog before now
 
 -- the same of the catalog that is this text
 pub record ServesLists (o : ServeOptions) (text : List ℕ) (c : Call) (p : Ports) (served : Served) : Type 0 where
@@ -53,32 +53,32 @@ pub record ServesLists (o : ServeOptions) (text : List ℕ) (c : Call) (p : Port
 pub record WantsMemory (text : List ℕ) (c : Call) : Type 0 where
   pub catalog : List Entry
   pub is : IsCatalog (records_of text) catalog
-  pub borrows : Borrows catalog c.before.shelf c.after.shelf
+  pub borrows : BorrowsSome catalog c.before.shelf c.after.shelf
 
 -- how a server ends over the catalog that is this text, once the shelf gave it
-abbrev pub EndsOverCatalog : ServeOptions → List ℕ → Call → Ports → Status → Type 0
-EndsOverCatalog o text c p Done = (count : ℕ) × ServesLists o text c p (Ended count) × WroteWhole c (served_text count)
-EndsOverCatalog o text c p PortFault = ServesLists o text c p AtFault × WroteNothing c
-EndsOverCatalog o text c p BadCatalog = (said : List ℕ) × NoCatalog text c p said × WroteWhole c said
-EndsOverCatalog o text c p WriteFault =
+abbrev pub ServeEndsOverCatalog : ServeOptions → List ℕ → Call → Ports → Status → Type 0
+ServeEndsOverCatalog o text c p Done = (count : ℕ) × ServesLists o text c p (Ended count) × WroteWhole c (served_text count)
+ServeEndsOverCatalog o text c p PortFault = ServesLists o text c p AtFault × WroteNothing c
+ServeEndsOverCatalog o text c p BadCatalog = (said : List ℕ) × NoCatalog text c p said × WroteWhole c said
+ServeEndsOverCatalog o text c p WriteFault =
     ((said : List ℕ) × NoCatalog text c p said × WroteFront c said)
     ⊎ ((count : ℕ) × ServesLists o text c p (Ended count) × WroteFront c (served_text count))
-EndsOverCatalog o text c p Memory = (AskedNothing c p ⊎ WantsMemory text c) × WroteNothing c
-EndsOverCatalog _ _ _ _ _ = ⊥
+ServeEndsOverCatalog o text c p Memory = (AskedNothing c p ⊎ WantsMemory text c) × WroteNothing c
+ServeEndsOverCatalog _ _ _ _ _ = ⊥
 
 -- the shelf gave the catalog's text, and then a server over it ended so
-abbrev pub EndsOn : ServeOptions → Call → Ports → Status → Type 0
-EndsOn o c p status =
-    (text : List ℕ) × (given : Shelf) × GivesText o.catalog c.before.shelf given text × EndsOverCatalog o text (from_shelf given c) p status
+abbrev pub ServeEndsOn : ServeOptions → Call → Ports → Status → Type 0
+ServeEndsOn o c p status =
+    (text : List ℕ) × (given : Shelf) × GivesText o.catalog c.before.shelf given text × ServeEndsOverCatalog o text (from_shelf given c) p status
 
 -- how a server of queries ends
 abbrev pub EndsServe : ServeOptions → Call → Ports → Status → Type 0
 EndsServe o c p OpenFault = TextFailed o.catalog c.before.shelf c.after.shelf × KeepsPort p × WroteNothing c
-EndsServe o c p Memory = (AsksText o.catalog c.before.shelf c.after.shelf × KeepsPort p × WroteNothing c) ⊎ EndsOn o c p Memory
-EndsServe o c p status = EndsOn o c p status
+EndsServe o c p Memory = (AsksText o.catalog c.before.shelf c.after.shelf × KeepsPort p × WroteNothing c) ⊎ ServeEndsOn o c p Memory
+EndsServe o c p status = ServeEndsOn o c p status
 
 -- what is said of links that were served: how many they are, or nothing where the port failed or memory was wanted
-abbrev pub SaysServed : Output → Output → Served → Status → Type 0
-SaysServed before now (Ended count) end = Says before now (served_text count) Done end
-SaysServed before now AtFault end = (end ≡ PortFault) × Keeps before.held now.held × (now.faults ≡ before.faults)
-SaysServed before now NoMemory end = (end ≡ Memory) × Keeps before.held now.held × (now.faults ≡ before.faults)
+abbrev pub SaysServeEnded : Output → Output → Served → Status → Type 0
+SaysServeEnded before now (Ended count) end = Says before now (served_text count) Done end
+SaysServeEnded before now AtFault end = (end ≡ PortFault) × Keeps before.held now.held × (now.faults ≡ before.faults)
+SaysServeEnded before now NoMemory end = (end ≡ Memory) × Keeps before.held now.held × (now.faults ≡ before.faults)

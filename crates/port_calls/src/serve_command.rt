@@ -8,7 +8,7 @@ ghost use Rattle.call_ends.specs.Calls.{Input, output_as, shelf_as, outside_of, 
 ghost use Rattle.call_ends.specs.Ends.{Says};
 ghost use Rattle.port_calls.specs.NodeTexts.{served_text};
 ghost use Rattle.port_calls.specs.Ports.{ports_of};
-ghost use Rattle.port_calls.specs.ServeEnds.{EndsServe, EndsOverCatalog, SaysServed};
+ghost use Rattle.port_calls.specs.ServeEnds.{EndsServe, ServeEndsOverCatalog, SaysServeEnded};
 
 use super::said::say_served;
 use super::server_serving::serve_lists;
@@ -72,7 +72,7 @@ fn serve_over<W: Threads + Wait + Sync, H: Shelf, K: Sink, P: Port>(
 ) -> Status
     requires { AreSettings options.now.settings }
     ensures writes { K.faults out.old ≤ K.faults out.new }
-    ensures ends { (words : List (List ℕ)) (input : Input) → EndsOverCatalog options.now text.items
+    ensures ends { (words : List (List ℕ)) (input : Input) → ServeEndsOverCatalog options.now text.items
         (call_at words (outside_of input (output_as K.held K.faults out.old) (shelf_as H.texts H.lists H.versions H.at shelf.old))
         (outside_of input (output_as K.held K.faults out.new) (shelf_as H.texts H.lists H.versions H.at shelf.new)))
         (ports_of P.links P.closed P.faults (port.old, port.new)) result }
@@ -91,7 +91,7 @@ fn serve_over<W: Threads + Wait + Sync, H: Shelf, K: Sink, P: Port>(
 /// Ends as serving did: how many links were taken is written, or nothing where the port failed or memory was wanted.
 fn end_served<K: Sink>(out: &mut K, served: Served) -> Status
     ensures counts { K.faults out.old ≤ K.faults out.new }
-    ensures says { SaysServed (output_as K.held K.faults out.old) (output_as K.held K.faults out.new) served result }
+    ensures says { SaysServeEnded (output_as K.held K.faults out.old) (output_as K.held K.faults out.new) served result }
 {
     match served {
         Served::Ended { conns } => say_served(out, conns),

@@ -59,8 +59,8 @@ may_for t (need.Row list depth) known range going count = let within = range.wit
 may_for t (need.Grade list object) known range going count = tt
 may_for t need.Done known range going count = absurd (cc)
 
-pub place_of : (holds : List Hold) (q : Inquiry) → IsReading holds q → is_ended q ≡ false → Place holds q
-place_of holds q h going =
+pub placed_at : (holds : List Hold) (q : Inquiry) → IsReading holds q → is_ended q ≡ false → Place holds q
+placed_at holds q h going =
     let parts = open_parts q going in
     let served = served_by holds q h.states h h.feeds parts.0 in
     let within = listed h.states q served.sources h.run parts.1 in
@@ -145,7 +145,7 @@ pub look_may : (before after : List Hold) (q : Inquiry) (answer : Look) → IsRe
 look_may before after q (look.Row row) h going on turn =
     let s = source_needed q in
     let by = row_seen (needed q) (hold_at before s) (hold_at after s) row turn in
-    let place = place_of before q h going in
+    let place = placed_at before q h going in
     let f = fresh before after q h (open_parts q going).0 place on by.sound in
     let states = slice_set h.states s (state_seen (hold_at after s).pass.1) in
     may_feed states q (state_at states s) q.waiting (look.Row row) f.feeds.sound f.served
@@ -153,7 +153,7 @@ look_may before after q (look.Row row) h going on turn =
 look_may before after q (look.Grade grade) h going on turn =
     let s = source_needed q in
     let by = grade_seen (needed q) (hold_at before s) (hold_at after s) grade turn in
-    let place = place_of before q h going in
+    let place = placed_at before q h going in
     let f = fresh before after q h (open_parts q going).0 place on by.sound in
     let states = slice_set h.states s (state_seen (hold_at after s).pass.1) in
     may_feed states q (state_at states s) q.waiting (look.Grade grade) f.feeds.sound f.served
@@ -176,7 +176,7 @@ pub at_need : (before after : List Hold) (q : Inquiry) (n : Need) (list source :
     → list ≡ list_needed n → source ≡ slice_index_or q.sources.items list source → LookedAt n source before after answer
     → LookedAt (needed q) (source_needed q) before after answer
 at_need before after q n list source answer h going is at read looked =
-    let here = source_read before q n list source (place_of before q h going) is at read in
+    let here = source_read before q n list source (placed_at before q h going) is at read in
     subst (λ m. LookedAt m (source_needed q) before after answer) is (subst (λ s. LookedAt n s before after answer) here looked)
 
 pub looked_may : (before after : List Hold) (q : Inquiry) (answer : Look) → IsReading before q → is_ended q ≡ false → length after ≡ length before

@@ -47,7 +47,7 @@ use Rattle.query_run.specs.Looking.{FeedsFrom, IsReading, LooksOnce, IsOnItsWay,
 use Rattle.query_run.proofs.SeenLaws.{state_is}
 use Rattle.query_run.proofs.AskingLaws.{row_meets, grade_meets}
 use Rattle.query_run.proofs.Looked.{row_seen, grade_seen, fault_seen, SeesOn, name_on, feeds_still}
-use Rattle.query_run.proofs.Steps.{place_of, sees_on, fresh, there_too, decided_looks}
+use Rattle.query_run.proofs.Steps.{placed_at, sees_on, fresh, there_too, decided_looks}
 use Rattle.query_run.proofs.Stands.{over_of, open_given, open_waits, core_stops, fault_stops, done_stops}
 
 -- what a look made of a query
@@ -123,7 +123,7 @@ step_row : (before now after : List Hold) (q r : Inquiry) (row : Row) → IsOnIt
 step_row before now after q r row h reading ending on l is =
     let s = source_needed q in
     let parts = open_parts q ending in
-    let place = place_of now q reading ending in
+    let place = placed_at now q reading ending in
     let turn = subst (Rattle.source_pool.specs.Looks.IsTurn (needed q) (hold_at now s) (hold_at after s)) is l.turn in
     let by = row_seen (needed q) (hold_at now s) (hold_at after s) row turn in
     let states = slice_set reading.states s (state_seen (hold_at after s).pass.1) in
@@ -145,7 +145,7 @@ step_grade : (before now after : List Hold) (q r : Inquiry) (grade : ℕ) → Is
 step_grade before now after q r grade h reading ending on l is =
     let s = source_needed q in
     let parts = open_parts q ending in
-    let place = place_of now q reading ending in
+    let place = placed_at now q reading ending in
     let turn = subst (Rattle.source_pool.specs.Looks.IsTurn (needed q) (hold_at now s) (hold_at after s)) is l.turn in
     let by = grade_seen (needed q) (hold_at now s) (hold_at after s) grade turn in
     let states = slice_set reading.states s (state_seen (hold_at after s).pass.1) in
@@ -175,7 +175,7 @@ step_waits : (sources : List ℕ) (before now after : List Hold) (q r : Inquiry)
 step_waits sources before now after q r advances h reading ending on l is =
     let s = source_needed q in
     let parts = open_parts q ending in
-    let place = place_of now q reading ending in
+    let place = placed_at now q reading ending in
     let answers = subst (Rattle.query_run.specs.Turns.Answers q r) is l.answers in
     let same : state_of r.machine ≡ state_of q.machine = ap state_of answers.1 in
     let goes = same_goes q r same in
@@ -270,7 +270,7 @@ pub looked_on : (before now after : List Hold) (first q r : Inquiry) → length 
 looked_on before now after first q r long h ending l =
     let parts = open_parts q ending in
     let reading = h.reading in
-    let place = place_of now q reading ending in
+    let place = placed_at now q reading ending in
     let on = sees_on (source_needed q) now after long l.others l.took in
     let stands : IsOnItsWay before now q = subst (Stands before now q) parts.0 h.stands in
     let step = step_by first.sources.items before now after q r l.answer h.advances stands reading ending on l refl in

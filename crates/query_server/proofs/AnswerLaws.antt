@@ -14,9 +14,9 @@ use Rattle.batch_run.specs.Working.{KnowsAll}
 use Rattle.batch_run.proofs.WorkLaws.{knows_on}
 use Rattle.query_server.specs.declared.answers.Answer.{Answer}
 use Rattle.query_server.specs.declared.answers.TheConstants.{MAX_ANSWERS}
-use Rattle.query_server.specs.declared.line.Told.{Told as ToldLine}
+use Rattle.query_server.specs.declared.line.ToldLine.{ToldLine}
 use Rattle.query_server.specs.Answers.{text_of, room_made, Keeps, IsAnswered, Remembers}
-use Rattle.query_server.specs.Becoming.{Told, IsTold, WasAnswered, is_answer, is_moved, line_text, shown}
+use Rattle.query_server.specs.Becoming.{LineSaid, IsLineTold, WasAnswered, is_answer, is_moved, line_text, shown}
 use Rattle.query_server.specs.Connections.{Tells}
 use Rattle.query_server.proofs.PassLaws.{knows_same}
 
@@ -47,7 +47,7 @@ refuses o refusal is answer =
     absurd cc
 
 -- a line that was told an answer was answered
-was_told : (view : View) (bytes : List ℕ) (before now : List Hold) (told : Told) → KnowsAll before now → (is : IsTold view bytes before now told)
+was_told : (view : View) (bytes : List ℕ) (before now : List Hold) (told : LineSaid) → KnowsAll before now → (is : IsLineTold view bytes before now told)
     → told.answered ≡ true → WasAnswered view 1 bytes now is.outcome
 was_told view bytes before now told knows is answered =
     let answer : is_answer is.outcome.outcome ≡ true = sym is.answered ∙ answered in
@@ -58,8 +58,8 @@ was_told view bytes before now told knows is answered =
     ]
 
 -- it is remembered as such
-told_answered : (view : View) (bytes : List ℕ) (before now : List Hold) (told : Told) (answer : Answer) → KnowsAll before now
-    → IsTold view bytes before now told → told.answered ≡ true → answer.line.items ≡ bytes → answer.text.items ≡ told.text → IsAnswered view now answer
+told_answered : (view : View) (bytes : List ℕ) (before now : List Hold) (told : LineSaid) (answer : Answer) → KnowsAll before now
+    → IsLineTold view bytes before now told → told.answered ≡ true → answer.line.items ≡ bytes → answer.text.items ≡ told.text → IsAnswered view now answer
 told_answered view bytes before now told answer knows is answered line text = record {
   outcome = is.outcome;
   was = subst (λ b. WasAnswered view 1 b now is.outcome) (sym line) (was_told view bytes before now told knows is answered);
@@ -67,7 +67,7 @@ told_answered view bytes before now told answer knows is answered line text = re
 }
 
 pub remembers_kept : (view : View) (line : List ℕ) (before now : List Hold) (told : ToldLine) (answers later : List Answer) → KnowsAll before now
-    → IsTold view line before now (shown told) → Keeps line told answers later → Remembers view before answers → Remembers view now later
+    → IsLineTold view line before now (shown told) → Keeps line told answers later → Remembers view before answers → Remembers view now later
 remembers_kept view line before now told answers later knows is keeps remembers =
     let still = remembers_still view before now answers knows remembers in
     elim keeps [
@@ -113,7 +113,7 @@ was_found view line text holds (answer ∷ answers) remembers found =
     (was_found view line text holds answers (All-tail (IsAnswered view holds) answer answers remembers)) (bytes_eq answer.line.items line) refl found
 
 -- what is told of a line whose answer is remembered
-abbrev pub told_again : List ℕ → Told
+abbrev pub told_again : List ℕ → LineSaid
 told_again text = record { text = text; answered = true; moved = false }
 
 pub tells_again : (view : View) (line text : List ℕ) (holds : List Hold) (answers : List Answer) → Remembers view holds answers

@@ -4,7 +4,7 @@ use Rattle.std.specs.Result.{IsOk}
 use Rattle.std.specs.Str.{bytes_eq}
 use Rattle.wire.specs.Targets.{Parts, parts_of}
 use Rattle.wire.specs.Heads.{AnswersRequest}
-use Rattle.wire.specs.Told.{Counts}
+use Rattle.wire.specs.LinkTold.{Counts}
 use Rattle.wire.specs.declared.fault.WireFault.{WireFault}
 use Rattle.wire.specs.declared.request.Head.{Head}
 use Rattle.wire.specs.Writing.{reply_text}
@@ -17,7 +17,7 @@ use Rattle.source_node.specs.declared.refusal.Refusal.{Refusal}
 use Rattle.source_node.specs.declared.refusal.Refusal.TheVariants.{TooLarge, BadRequest, NotFound, MethodNotAllowed, SourceFailed, NoMemory}
 use Rattle.query_admission.specs.View.{View}
 use Rattle.query_server.specs.Asking.{by_parts, routed, line_at, line_in, AsksAt, AsksFor}
-use Rattle.query_server.specs.Becoming.{Told}
+use Rattle.query_server.specs.Becoming.{LineSaid}
 use Rattle.query_server.specs.Connections.{Visit, Tells, TellsAsked, Serves, ServesHeard, Sends, SendsAnswer, Ends}
 use Rattle.query_server.specs.declared.conn.ConnEnd.{ConnEnd}
 use Rattle.query_server.specs.declared.conn.ConnEnd.TheVariants.{LinkFault}
@@ -54,7 +54,7 @@ no_memory method target is = by_method (bytes_eq method (codes "GET")) is
     by_method false e = absurd cc
 
 -- the line that a head asks about is told
-pub serves_told : (view : View) (method target : List ℕ) (before now : List Hold) (line : List ℕ) (answer : Result Told Refusal)
+pub serves_told : (view : View) (method target : List ℕ) (before now : List Hold) (line : List ℕ) (answer : Result LineSaid Refusal)
     → Ok line ≡ line_in method target → Tells view line before now answer → Serves view method target before now answer
 serves_told view method target before now line (Ok told) is tells =
     subst (λ (a : Result (List ℕ) Refusal). TellsAsked view a before now (Ok told)) is tells
@@ -65,7 +65,7 @@ serves_told view method target before now line (Err NotFound) is tells = absurd 
 serves_told view method target before now line (Err MethodNotAllowed) is tells = absurd tells
 serves_told view method target before now line (Err SourceFailed) is tells = absurd tells
 
-pub serves_line : (view : View) (method target : List ℕ) (before now : List Hold) (line bytes : List ℕ) (answer : Result Told Refusal)
+pub serves_line : (view : View) (method target : List ℕ) (before now : List Hold) (line bytes : List ℕ) (answer : Result LineSaid Refusal)
     → Ok line ≡ line_in method target → bytes ≡ line → Tells view bytes before now answer → Serves view method target before now answer
 serves_line view method target before now line bytes answer is same tells =
     serves_told view method target before now line answer is (subst (λ (b : List ℕ). Tells view b before now answer) same tells)
@@ -81,7 +81,7 @@ serves_refused view method target holds MethodNotAllowed asks = subst (λ (a : R
 serves_refused view method target holds SourceFailed asks = subst (λ (a : Result (List ℕ) Refusal). TellsAsked view a holds holds (Err SourceFailed)) asks (refl, refl)
 
 -- a request that was answered, where the link took nothing while it was read
-pub replied : (view : View) (visit : Visit) (held : Option (List ℕ)) (faults : ℕ) (heard : Result Head WireFault) (answer : Result Told Refusal) (turn : Turn)
+pub replied : (view : View) (visit : Visit) (held : Option (List ℕ)) (faults : ℕ) (heard : Result Head WireFault) (answer : Result LineSaid Refusal) (turn : Turn)
     → IfSome visit.came (λ bytes. AnswersRequest bytes heard) → visit.read_faults_now ≡ visit.read_faults → held ≡ visit.held → faults ≡ visit.write_faults
     → ServesHeard view heard visit.before visit.now answer
     → SendsAnswer (asks_head heard) answer held visit.held_now faults visit.write_faults_now turn → Ends view visit turn
@@ -113,7 +113,7 @@ refusal_sent held held_now faults faults_now status body is_head why end one two
   moved = refl;
 }
 
-pub told_sent : (held held_now : Option (List ℕ)) (faults faults_now : ℕ) (body : List ℕ) (is_head : Bool) (told : Told) (end : ConnEnd) → body ≡ told.text
+pub told_sent : (held held_now : Option (List ℕ)) (faults faults_now : ℕ) (body : List ℕ) (is_head : Bool) (told : LineSaid) (end : ConnEnd) → body ≡ told.text
     → Sends held held_now faults faults_now 200 (reply_text 200 Text (Some body)) end
     → SendsAnswer is_head (Ok told) held held_now faults faults_now (record { end = end; moved = told.moved })
 told_sent held held_now faults faults_now body is_head told end is sends = record {
@@ -122,7 +122,7 @@ told_sent held held_now faults faults_now body is_head told end is sends = recor
 }
 
 -- the same by an equal test
-pub by_test : (held held_now : Option (List ℕ)) (faults faults_now : ℕ) (is_head test : Bool) (answer : Result Told Refusal) (turn : Turn) → is_head ≡ test
+pub by_test : (held held_now : Option (List ℕ)) (faults faults_now : ℕ) (is_head test : Bool) (answer : Result LineSaid Refusal) (turn : Turn) → is_head ≡ test
     → SendsAnswer is_head answer held held_now faults faults_now turn → SendsAnswer test answer held held_now faults faults_now turn
 by_test held held_now faults faults_now is_head test answer turn is sends = subst (λ t. SendsAnswer t answer held held_now faults faults_now turn) is sends
 

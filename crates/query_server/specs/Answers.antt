@@ -7,7 +7,7 @@ use Rattle.query_admission.specs.View.{View}
 use Rattle.query_admission.specs.declared.line_outcome.LineOutcome.{LineOutcome}
 use Rattle.query_server.specs.declared.answers.Answer.{Answer}
 use Rattle.query_server.specs.declared.answers.TheConstants.{MAX_ANSWERS, MAX_ANSWER}
-use Rattle.query_server.specs.declared.line.Told.{Told}
+use Rattle.query_server.specs.declared.line.ToldLine.{ToldLine}
 use Rattle.query_server.specs.Becoming.{WasAnswered, line_text}
 
 -- few answers, none of which is long
@@ -26,7 +26,7 @@ abbrev pub room_made : List Answer → List Answer
 room_made answers = drop (length answers + 1 - MAX_ANSWERS) answers
 
 -- what was told of a line stands behind the other answers if it is one; or nothing has changed
-abbrev pub Keeps : List ℕ → Told → List Answer → List Answer → Type 0
+abbrev pub Keeps : List ℕ → ToldLine → List Answer → List Answer → Type 0
 Keeps line told before after =
     (after ≡ before)
     ⊎ ((answer : Answer) × (answer.line.items ≡ line) × (answer.text.items ≡ told.text.items) × (told.answered ≡ true) × (after ≡ room_made before ++ answer ∷ []))

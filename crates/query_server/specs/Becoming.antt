@@ -19,7 +19,7 @@ use Rattle.query_run.specs.Ran.{Ran}
 use Rattle.batch_run.specs.Working.{KnowsAll}
 use Rattle.query_admission.specs.Causes.{line_over}
 use Rattle.line_outcome.specs.LineOutcomes.{IsEndedAs, IsLineRefused}
-use Rattle.query_server.specs.declared.line.Told.{Told as ToldLine}
+use Rattle.query_server.specs.declared.line.ToldLine.{ToldLine}
 
 -- a query that is ready ran through the pass, and this is how it ended: an answer is right, and rests on what the pass saw; a refusal has its cause
 -- there, and a call that failed or was garbled was shown through the pass while the query ran
@@ -72,17 +72,17 @@ abbrev pub line_text : LineOutcome → List ℕ
 line_text o = outcome_text 1 o.query o.count o.versions o.outcome
 
 -- what is told of a line: a text, whether it is an answer, and whether a source moved
-pub record Told : Type 0 where
+pub record LineSaid : Type 0 where
   pub text : List ℕ
   pub answered : Bool
   pub moved : Bool
 
 -- the same of what was made
-abbrev pub shown : ToldLine → Told
+abbrev pub shown : ToldLine → LineSaid
 shown told = record { text = told.text.items; answered = told.answered; moved = told.moved }
 
 -- the line of a request is told by what becomes of it
-pub record IsTold (view : View) (bytes : List ℕ) (before now : List Hold) (told : Told) : Type 0 where
+pub record IsLineTold (view : View) (bytes : List ℕ) (before now : List Hold) (told : LineSaid) : Type 0 where
   pub outcome : LineOutcome
   pub becomes : BecomesHere view 1 bytes before now outcome
   pub text : told.text ≡ line_text outcome

@@ -17,7 +17,7 @@ use Rattle.source_node.specs.declared.refusal.Refusal.{Refusal}
 use Rattle.source_node.specs.declared.refusal.Refusal.TheVariants.{TooLarge, BadRequest, NoMemory}
 use Rattle.query_admission.specs.View.{View}
 use Rattle.query_server.specs.Asking.{routed, line_in}
-use Rattle.query_server.specs.Becoming.{Told, IsTold}
+use Rattle.query_server.specs.Becoming.{LineSaid, IsLineTold}
 use Rattle.query_server.specs.declared.conn.ConnEnd.{ConnEnd}
 use Rattle.query_server.specs.declared.conn.ConnEnd.TheVariants.{Replied, LinkFault}
 use Rattle.query_server.specs.declared.conn.Turn.{Turn}
@@ -36,23 +36,23 @@ pub record Visit : Type 0 where
   pub now : List Hold
 
 -- a query line is told, or no memory was left
-abbrev pub Tells : View → List ℕ → List Hold → List Hold → Result Told Refusal → Type 0
-Tells view line before now (Ok told) = IsTold view line before now told
+abbrev pub Tells : View → List ℕ → List Hold → List Hold → Result LineSaid Refusal → Type 0
+Tells view line before now (Ok told) = IsLineTold view line before now told
 Tells view line before now (Err NoMemory) = ⊤
 Tells view line before now (Err _) = ⊥
 
 -- a query line is told; where a head is refused nothing is looked at
-abbrev pub TellsAsked : View → Result (List ℕ) Refusal → List Hold → List Hold → Result Told Refusal → Type 0
+abbrev pub TellsAsked : View → Result (List ℕ) Refusal → List Hold → List Hold → Result LineSaid Refusal → Type 0
 TellsAsked view (Ok line) before now answer = Tells view line before now answer
 TellsAsked view (Err why) before now answer = (answer ≡ Err why) × (now ≡ before)
 
 -- how a request with this method and this target is answered; want of memory is free where it is on the route
-abbrev pub Serves : View → List ℕ → List ℕ → List Hold → List Hold → Result Told Refusal → Type 0
+abbrev pub Serves : View → List ℕ → List ℕ → List Hold → List Hold → Result LineSaid Refusal → Type 0
 Serves view method target before now (Err NoMemory) = IsOk (routed method target)
 Serves view method target before now answer = TellsAsked view (line_in method target) before now answer
 
 -- how what was heard is answered: a head, or bytes that are none or pass a limit, or for which no memory was left
-abbrev pub ServesHeard : View → Result Head WireFault → List Hold → List Hold → Result Told Refusal → Type 0
+abbrev pub ServesHeard : View → Result Head WireFault → List Hold → List Hold → Result LineSaid Refusal → Type 0
 ServesHeard view (Ok head) before now answer = Serves view head.method.items head.target.items before now answer
 ServesHeard view (Err heard.BadMessage) before now answer = (answer ≡ Err BadRequest) × (now ≡ before)
 ServesHeard view (Err (heard.TooLong limit)) before now answer = (answer ≡ Err TooLarge) × (now ≡ before)
@@ -60,24 +60,24 @@ ServesHeard view (Err heard.Memory) before now answer = (answer ≡ Err NoMemory
 ServesHeard view (Err heard.LinkFault) before now answer = ⊥
 
 -- the status of an answer
-abbrev pub status_in : Result Told Refusal → ℕ
+abbrev pub status_in : Result LineSaid Refusal → ℕ
 status_in (Ok told) = 200
 status_in (Err why) = status_of why
 
 -- the reply in plain text: what is told, or the reason of a refusal, which has no body in a reply to the method HEAD
-abbrev pub reply_of : Bool → Result Told Refusal → List ℕ
+abbrev pub reply_of : Bool → Result LineSaid Refusal → List ℕ
 reply_of is_head (Ok told) = reply_text 200 Text (Some told.text)
 reply_of is_head (Err why) = reply_text (status_of why) Text (body_of is_head why)
 
 -- whether an answer tells that a source moved
-abbrev pub moved_in : Result Told Refusal → Bool
+abbrev pub moved_in : Result LineSaid Refusal → Bool
 moved_in (Ok told) = told.moved
 moved_in (Err why) = false
 
 -- a request was read to the end of its head, or as far as it was none or no memory was left, and answered
-pub record IsServed (view : View) (visit : Visit) : Type 0 where
+pub record IsVisitServed (view : View) (visit : Visit) : Type 0 where
   pub heard : Result Head WireFault
-  pub answer : Result Told Refusal
+  pub answer : Result LineSaid Refusal
   pub reads : IfSome visit.came (λ bytes. AnswersRequest bytes heard)
   pub quiet : visit.read_faults_now ≡ visit.read_faults
   pub serves : ServesHeard view heard visit.before visit.now answer
@@ -88,12 +88,12 @@ Sends held held_now faults faults_now status text (Replied said) = (said ≡ sta
 Sends held held_now faults faults_now status text LinkFault = TookFront held held_now text × Rose faults faults_now
 
 -- a reply was sent of this answer, and it is told whether a source moved
-pub record SendsAnswer (is_head : Bool) (answer : Result Told Refusal) (held held_now : Option (List ℕ)) (faults faults_now : ℕ) (turn : Turn) : Type 0 where
+pub record SendsAnswer (is_head : Bool) (answer : Result LineSaid Refusal) (held held_now : Option (List ℕ)) (faults faults_now : ℕ) (turn : Turn) : Type 0 where
   pub sends : Sends held held_now faults faults_now (status_in answer) (reply_of is_head answer) turn.end
   pub moved : turn.moved ≡ moved_in answer
 
 -- the reply to a request that was answered
-abbrev pub SendsReply : (view : View) (visit : Visit) → IsServed view visit → Turn → Type 0
+abbrev pub SendsReply : (view : View) (visit : Visit) → IsVisitServed view visit → Turn → Type 0
 SendsReply view visit served turn =
     SendsAnswer (asks_head served.heard) served.answer visit.held visit.held_now visit.write_faults visit.write_faults_now turn
 
@@ -108,15 +108,15 @@ pub record FailsToRead (visit : Visit) (turn : Turn) : Type 0 where
 
 -- how a connection ends: the request was answered, and the reply written or a front of it; or the link failed while the request was read
 abbrev pub Ends : View → Visit → Turn → Type 0
-Ends view visit turn = ((served : IsServed view visit) × SendsReply view visit served turn) ⊎ FailsToRead visit turn
+Ends view visit turn = ((served : IsVisitServed view visit) × SendsReply view visit served turn) ⊎ FailsToRead visit turn
 
 -- a head was answered and the reply written, or a front of it
 abbrev pub IsRepliedTo : View → List ℕ → List ℕ → List Hold → List Hold → Option (List ℕ) → Option (List ℕ) → ℕ → ℕ → Turn → Type 0
 IsRepliedTo view method target before now held held_now faults faults_now turn =
-    (answer : Result Told Refusal) × Serves view method target before now answer
+    (answer : Result LineSaid Refusal) × Serves view method target before now answer
     × SendsAnswer (bytes_eq method (codes "HEAD")) answer held held_now faults faults_now turn
 
 -- a query line was told and the reply written, or a front of it
 abbrev pub IsLineReplied : View → List ℕ → Bool → List Hold → List Hold → Option (List ℕ) → Option (List ℕ) → ℕ → ℕ → Turn → Type 0
 IsLineReplied view line is_head before now held held_now faults faults_now turn =
-    (answer : Result Told Refusal) × Tells view line before now answer × SendsAnswer is_head answer held held_now faults faults_now turn
+    (answer : Result LineSaid Refusal) × Tells view line before now answer × SendsAnswer is_head answer held held_now faults faults_now turn

@@ -15,7 +15,7 @@ pub record KeepsSources {S : Type 0} (list : S → Option (List Row)) (counts : 
   pub later : (i : ℕ) (d : Slot S) → i < length before → NoneFell (counts (slice_index_or before i d).source) (counts (slice_index_or after i d).source)
 
 -- how serving at most so many links of a port ends; want of memory is free
-abbrev pub Serves : ℕ → Option (List (List ℕ)) → Option (List (List ℕ)) → ℕ → ℕ → Served → Type 0
-Serves asked links links_now faults faults_now (served.Ended count) = TookAll asked links links_now faults faults_now count
-Serves asked links links_now faults faults_now served.PortFault = TookSome asked links links_now faults faults_now
-Serves asked links links_now faults faults_now served.Memory = ⊤
+abbrev pub ServesLinks : ℕ → Option (List (List ℕ)) → Option (List (List ℕ)) → ℕ → ℕ → Served → Type 0
+ServesLinks asked links links_now faults faults_now (served.Ended count) = TookAll asked links links_now faults faults_now count
+ServesLinks asked links links_now faults faults_now served.PortFault = TookSome asked links links_now faults faults_now
+ServesLinks asked links links_now faults faults_now served.Memory = ⊤

@@ -4,7 +4,7 @@ ghost use Rattle.std.specs.Prelude.{◌≡◌, ◌≤◌, ◌<◌, [], length, o
 ghost use Rattle.std.specs.Vec.{vec_len, vec_capacity};
 ghost use Rattle.query_server.specs.Answers.{text_of, room_made, AreFew, Keeps};
 
-use super::line::Told;
+use super::line::ToldLine;
 use limits::{MAX_LINE, Memory};
 use std::alloc::Global;
 use std::marker::Model;
@@ -62,7 +62,7 @@ impl Answers {
 
     /// Remembers what was told of a line if it is an answer, and forgets the oldest where there is room for no more. An answer that is too
     /// long, or for which no memory is left, isn't remembered.
-    pub(crate) fn keep(&mut self, alloc: Global, line: &[u8], told: &Told)
+    pub(crate) fn keep(&mut self, alloc: Global, line: &[u8], told: &ToldLine)
         ensures { Keeps line.now told.now self.old self.new }
     {
         keep_in(alloc, &mut self.kept, line, told);
@@ -82,7 +82,7 @@ fn text_in<'a>(answers: &'a [Answer], line: &[u8]) -> Option<&'a [u8]>
 }
 
 /// Puts what was told of a line behind the answers.
-fn keep_in(alloc: Global, kept: &mut Vec<Answer>, line: &[u8], told: &Told)
+fn keep_in(alloc: Global, kept: &mut Vec<Answer>, line: &[u8], told: &ToldLine)
     requires few { AreFew kept.old.items }
     ensures keeps { Keeps line.now told.now kept.old.items kept.new.items }
     ensures few { AreFew kept.new.items }

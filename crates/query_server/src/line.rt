@@ -24,7 +24,7 @@ use std::sync::Wait;
 
 /// What is told of a query line: its outcome in text, whether that is an answer, and whether it is the refusal of a query whose source moved.
 #[derive(Drop)]
-pub(crate) struct Told {
+pub(crate) struct ToldLine {
     pub(crate) text: Vec<u8>,
     pub(crate) answered: bool,
     pub(crate) moved: bool,
@@ -38,7 +38,7 @@ pub(crate) fn tell_line(
     pool: &Pool,
     pass: &mut PoolPass,
     line: &[u8],
-) -> Result<Told, source_node::Refusal>
+) -> Result<ToldLine, source_node::Refusal>
     requires fit { MayAnswer catalog.now pool.now pass.old }
     ensures fit { MayAnswer catalog.now pool.now pass.new }
     ensures knows { KnowsAll pass.old pass.new }
@@ -51,7 +51,7 @@ pub(crate) fn tell_line(
             let moved = is_moved(&outcome.outcome);
             drop(outcome);
             match text {
-                Ok(text) => Ok(Told {
+                Ok(text) => Ok(ToldLine {
                     text,
                     answered,
                     moved,

@@ -3,7 +3,7 @@
 ghost use Rattle.std.specs.Prelude.{◌≡◌, ◌<◌, ◌^◌, None, All, length, map};
 ghost use Rattle.limits.specs.Ranges.{AreSettings};
 ghost use Rattle.query_server.specs.Homes.{AreHomes, AreAtHome, home_of};
-ghost use Rattle.query_server.specs.Serving.{KeepsSources, Serves};
+ghost use Rattle.query_server.specs.Serving.{KeepsSources, ServesLinks};
 
 use super::accepting::{Accepted, accept_all};
 use super::generation::serve_side;
@@ -31,7 +31,7 @@ pub enum Served {
 
 /// The side with the port: how the server ends by it. Where nobody takes links any more memory was wanted.
 fn accept_side<P: Port>(rt: &impl Wait, port: &mut P, queue: &LinkQueue<P::L>, conns: u64) -> Served
-    ensures serves { Serves conns (P.links port.old) (P.links port.new) (P.faults port.old) (P.faults port.new) result }
+    ensures serves { ServesLinks conns (P.links port.old) (P.links port.new) (P.faults port.old) (P.faults port.new) result }
     ensures closed { P.closed port.new ≡ P.closed port.old }
 {
     match accept_all(rt, port, queue, conns) {
@@ -66,7 +66,7 @@ pub fn serve_all<W: Threads + Wait + Sync, S: Source, P: Port>(
     requires few { length sources.old < 2 ^ 32 }
     requires homes { AreHomes (length sources.old) (map home_of catalog.old.entries) }
     requires empty { All (λ slot. slot.feeder ≡ None) sources.old }
-    ensures serves { Serves conns (P.links port.old) (P.links port.new) (P.faults port.old) (P.faults port.new) result }
+    ensures serves { ServesLinks conns (P.links port.old) (P.links port.new) (P.faults port.old) (P.faults port.new) result }
     ensures closed { P.closed port.new ≡ P.closed port.old }
     ensures kept { KeepsSources S.list S.counts sources.old sources.new }
     ensures empty { All (λ slot. slot.feeder ≡ None) sources.new }

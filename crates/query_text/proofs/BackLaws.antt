@@ -156,12 +156,12 @@ lawful_lists : (q : Query) → IsLawful q → lists_in (pieces_of (shape_of q)) 
 lawful_lists q h = ap (each_once bytes_eq) (names_in-shape (shape_of q) ∙ names_written q.expr q.names) ∙ h.numbered
 
 -- the place of a name
-place_of : List (List ℕ) → List ℕ → ℕ
-place_of [] w = 0
-place_of (n ∷ names) w = cond (bytes_eq n w) 0 (suc (place_of names w))
+name_at : List (List ℕ) → List ℕ → ℕ
+name_at [] w = 0
+name_at (n ∷ names) w = cond (bytes_eq n w) 0 (suc (name_at names w))
 
-place-name : (names : List (List ℕ)) (l : ℕ) → AllPairs ◌≢◌ names → l < length names → place_of names (name_of names l) ≡ l
-unfolding place_of
+place-name : (names : List (List ℕ)) (l : ℕ) → AllPairs ◌≢◌ names → l < length names → name_at names (name_of names l) ≡ l
+unfolding name_at
 place-name [] l different within = absurd (omega arith)
 place-name (n ∷ names) zero different within = cond-true _ _ _ (bytes_same n n refl)
 place-name (n ∷ names) (suc l) different within =
@@ -182,7 +182,7 @@ over Wsum ts us = Tree.Wsum us
 -- the tree of an expression
 abbrev mutual
   renamed : List (List ℕ) → Written → Tree
-  renamed names (Written.name w) = Tree.Grade (place_of names w)
+  renamed names (Written.name w) = Tree.Grade (name_at names w)
   renamed names (Written.call op args) = over op (as_trees names args) (as_terms names args)
 
   as_trees : List (List ℕ) → Arguments → Trees

@@ -6,7 +6,7 @@ use Rattle.wire.specs.Heads.{AnswersRequest}
 use Rattle.wire.specs.declared.fault.WireFault.{WireFault}
 use Rattle.wire.specs.declared.fault.WireFault.TheVariants.{BadMessage, TooLong}
 use Rattle.wire.specs.declared.request.Head.{Head}
-use Rattle.wire.specs.Told.{Counts as Counted}
+use Rattle.wire.specs.LinkTold.{Counts as Counted}
 use Rattle.source_node.specs.Refusals.{status_of, body_of}
 use Rattle.source_api.specs.declared.counts.Counts.{Counts}
 use Rattle.source_api.specs.declared.source.Trouble.{Trouble}

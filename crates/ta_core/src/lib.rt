@@ -1,8 +1,7 @@
-//! The threshold algorithm of Fagin, Lotem and Naor, as machines that are fed one access at a time: exact (`Ta`), within a factor of the best
-//! (`Theta`), and stopped early (`Early`).
+//! The threshold algorithm of Fagin, Lotem and Naor, exact, within a factor and stopped early, as machines that are fed one access at a time.
 //!
-//! They read alike and differ in when they halt (`Halting`). How far a machine has come in the row that it reads is the row's objects and grades
-//! so far, the new objects that wait for grades, what is needed next, and what follows an access that is told. `Theta` and `Early` answer the
+//! `Ta`, `Theta` and `Early` read alike and differ in when they halt (`Halting`). How far a machine has come in the row that it reads is the row's objects
+//! and grades so far, the new objects that wait for grades, what is needed next, and what follows an access that is told. `Theta` and `Early` answer the
 //! first k of the objects that they have seen, and their transcripts show within which factor of the best these are.
 #![tactic(auto)]
 

@@ -1,5 +1,6 @@
-//! Tests of what is below HTTP sources by the public calls: links, in memory and over TCP on this machine; messages, whole and byte by byte; the JSON bodies
-//! of a list's replies.
+//! Tests of what is below HTTP sources, by the public calls: links, messages, and the JSON bodies of a list's replies.
+//!
+//! Links are in memory and over TCP on this machine, messages come whole and byte by byte.
 #![tactic(auto)]
 
 #[cfg(test)]

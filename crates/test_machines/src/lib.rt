@@ -1,5 +1,6 @@
-//! Tests of the machines of all algorithms, row by row, of the transcripts that they keep, and of the plain programs: tables worked
-//! out by hand, where the algorithms stop on them, what they read and what they answer.
+//! Tests of the machines of all algorithms, of the transcripts that they keep, and of the plain programs, row by row.
+//!
+//! Tables are worked out by hand: where the algorithms stop on them, what they read and what they answer.
 #![tactic(auto)]
 
 #[cfg(test)]

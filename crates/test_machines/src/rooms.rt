@@ -22,7 +22,7 @@ fn takes_three(log: &mut Transcript) -> bool
 fn keeps_objects(log: &Transcript) -> bool {
     log.seen() == 2
         && [log.object_at(0), log.object_at(1)] == [5, 7]
-        && [log.place_of(7), log.place_of(6)] == [Some(1), None]
+        && [log.sight_of(7), log.sight_of(6)] == [Some(1), None]
 }
 
 /// Whether their grades are kept, and the bottoms.

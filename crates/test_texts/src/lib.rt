@@ -1,5 +1,4 @@
-//! Tests of texts: lines, numbers, names and rows, tables and bundles, query lines, certificates, catalogs and places, and the words of a command
-//! line.
+//! Tests of texts: lines, bundles, query lines, certificates, catalogs and places, and the words of a command line.
 #![tactic(auto)]
 
 #[cfg(test)]

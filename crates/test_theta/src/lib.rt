@@ -1,5 +1,6 @@
-//! Tests of the machines that stop within a factor and early, and of the one over lists of which some can't be read in order: tables worked
-//! out by hand, what is read of them, what is answered or refused, and what transcripts guarantee.
+//! Tests of the machines that stop within a factor and early, and of the one over lists of which some can't be read in order.
+//!
+//! Tables are worked out by hand: what is read of them, what is answered or refused, and what transcripts guarantee.
 #![tactic(auto)]
 
 #[cfg(test)]

@@ -1,5 +1,6 @@
-//! The threshold algorithm stopped before it has the best: within a factor, and from a depth on. What it reads and answers
-//! on whole tables, within which factor its answer is, and laws of these, with no code.
+//! The threshold algorithm stopped before it has the best, within a factor or from a depth on: definitions over whole tables, with no code.
+//!
+//! They say what it reads and answers and within which factor its answer is, with laws of these.
 #![tactic(auto)]
 
 mod laws;

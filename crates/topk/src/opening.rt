@@ -81,7 +81,7 @@ fn open_served<D: Dial + Drop>(
     ensures source { IfOk result (IsOverDial dial address.entry.host.now address.entry.port address.entry.path.now) }
     ensures sound { IfErr result IsFileTrouble }
 {
-    let Ok(place) = place_of(alloc, address) else {
+    let Ok(place) = http_place(alloc, address) else {
         drop(dial);
         return Err(Trouble::Fail(FailKind::Memory));
     };
@@ -92,7 +92,7 @@ fn open_served<D: Dial + Drop>(
 }
 
 /// The place of an address.
-fn place_of(alloc: Global, address: Address<'_>) -> Result<Place, AllocError>
+fn http_place(alloc: Global, address: Address<'_>) -> Result<Place, AllocError>
     ensures host { IfOk result (λ place. string_bytes place.host ≡ address.entry.host.now) }
     ensures port { IfOk result (λ place. place.port ≡ address.entry.port) }
     ensures path { IfOk result (λ place. string_bytes place.path ≡ address.entry.path.now) }

@@ -54,7 +54,7 @@ use Rattle.query_admission.specs.declared.line_outcome.LineOutcome.{LineOutcome}
 use Rattle.line_outcome.specs.Outcomes.{ended_outcome}
 use Rattle.catalog_run.specs.Runs.{CatalogRun, IsRun, IsLineRun, AreOutcomes}
 use Rattle.line_outcome.specs.LineOutcomes.{IsLineRefused}
-use Rattle.topk_laws.specs.Told.{view_told, ShelfTellsTables, AllBecome}
+use Rattle.topk_laws.specs.ToldTables.{view_told, ShelfTellsTables, AllBecome}
 use Rattle.topk_laws.proofs.Alike.{Alike, SameTold, becomes_alike, late_refused, none_alike, refused_alike, unseen_rows}
 use Rattle.catalog_run.proofs.Failing.{calls_behind, counted_back, refused_there, rose_faults, rose_garbles, rose_moves}
 use Rattle.catalog_run.proofs.Readies.{admitted_few}

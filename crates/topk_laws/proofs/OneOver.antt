@@ -49,7 +49,7 @@ use Rattle.line_outcome.specs.Outcomes.{ended_outcome, look_refusal}
 use Rattle.catalog_run.specs.Runs.{CatalogRun, IsRun, IsLineRun, AreOutcomes}
 use Rattle.line_outcome.specs.LineOutcomes.{IsLineRefused}
 use Rattle.catalog_run.specs.OpenSources.{batch_over}
-use Rattle.topk_laws.specs.Told.{view_told}
+use Rattle.topk_laws.specs.ToldTables.{view_told}
 use Rattle.topk_laws.proofs.Becoming.{served_all}
 use Rattle.topk_laws.proofs.Right.{never_answered, refused_answered, same_answer}
 use Rattle.topk_laws.proofs.ToldLists.{by_place, rows_at_source, rows_of, some_place}

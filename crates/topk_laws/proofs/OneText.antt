@@ -10,7 +10,7 @@ use Rattle.query_admission.specs.Causes.{QueryLine, Cause, admission_causes, lin
 use Rattle.catalog_open.specs.Entries.{entry_told}
 use Rattle.query_admission.specs.declared.line_outcome.LineOutcome.{LineOutcome}
 use Rattle.catalog_run.specs.Runs.{CatalogRun}
-use Rattle.topk_laws.specs.Told.{AllBecome, ShelfTellsTables, told_listed, view_told}
+use Rattle.topk_laws.specs.ToldTables.{AllBecome, ShelfTellsTables, told_listed, view_told}
 use Rattle.topk_laws.proofs.ToldLists.{rows_of, known_places, named_wanted, admitted_few, names_told}
 use Rattle.catalog_run.specs.Running.{is_answer, outcomes_text, run_status}
 use Rattle.topk_laws.specs.RunLaws.{ComeTo}

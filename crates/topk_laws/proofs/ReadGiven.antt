@@ -26,7 +26,7 @@ use Rattle.catalog_run.specs.OpenSources.{batch_over}
 use Rattle.catalog_run.specs.Runs.{CatalogRun, IsReadyOf, IsRun}
 use Rattle.query_admission.specs.declared.line_outcome.LineOutcome.{LineOutcome}
 use Rattle.topk_laws.specs.Giving.{GaveSparingly, GaveWhatIsRead, LinesHaveTables}
-use Rattle.topk_laws.specs.Told.{ShelfTellsTables}
+use Rattle.topk_laws.specs.ToldTables.{ShelfTellsTables}
 use Rattle.topk_laws.proofs.ToldLists.{are_told, has_lists, lists_told}
 use Rattle.topk_laws.proofs.Given.{gave_what_is_asked, given_from_none}
 use Rattle.topk_laws.proofs.Unread.{GradesAloneGiveNoRow, gives_no_row}

@@ -36,7 +36,7 @@ use Rattle.catalog_open.proofs.Moving.{moved_from, moves_at, puts_at, trouble_on
 use Rattle.query_admission.specs.declared.line_outcome.LineOutcome.{LineOutcome}
 use Rattle.catalog_run.specs.Runs.{CatalogRun, IsRun, IsReadyOf}
 use Rattle.catalog_run.specs.OpenSources.{batch_over}
-use Rattle.topk_laws.specs.Told.{told_listed, view_told, ShelfTellsTables}
+use Rattle.topk_laws.specs.ToldTables.{told_listed, view_told, ShelfTellsTables}
 use Rattle.topk_laws.proofs.Alike.{plain, Alike, none_alike, unseen_rows}
 pub use Rattle.catalog_run.proofs.Readies.{admitted_few}
 use Rattle.catalog_run.proofs.Failing.{counted_back, rose_moves}

@@ -14,7 +14,7 @@ use Rattle.catalog_open.specs.Openings.{TroubleAt}
 use Rattle.catalog_open.specs.Entries.{entry_at}
 use Rattle.command_words.specs.declared.running.RunOptions.{RunOptions}
 use Rattle.limits.specs.declared.settings.Settings.{Settings}
-use Rattle.topk_laws.specs.Told.{AllBecome, ShelfTellsTables, view_told}
+use Rattle.topk_laws.specs.ToldTables.{AllBecome, ShelfTellsTables, view_told}
 use Rattle.query_admission.specs.declared.line_outcome.LineOutcome.{LineOutcome}
 use Rattle.catalog_run.specs.Runs.{CatalogRun, IsRun}
 use Rattle.call_ends.specs.Calls.{Call, WroteWhole}

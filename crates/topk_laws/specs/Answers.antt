@@ -18,7 +18,7 @@ use Rattle.catalog_text.specs.Catalog.{Listed as Entry}
 use Rattle.catalog_open.specs.Views.{entry_named}
 use Rattle.catalog_open.specs.Entries.{entry_at}
 use Rattle.catalog_run.specs.Runs.{CatalogRun}
-use Rattle.topk_laws.specs.Told.{view_told}
+use Rattle.topk_laws.specs.ToldTables.{view_told}
 
 -- whether the list of a name can be read in order, by a catalog
 abbrev pub is_sorted : List Entry → List ℕ → Bool

@@ -1,7 +1,7 @@
 -- What is read of a node's answers.
 pub mod ReadBack
 -- What the laws of runs of query lines say.
-pub mod Told
+pub mod ToldTables
 pub mod Failures
 pub mod Answers
 pub mod Giving

@@ -10,7 +10,7 @@ use Rattle.command_words.specs.declared.running.RunOptions.{RunOptions}
 use Rattle.limits.specs.declared.settings.Settings.{Settings}
 use Rattle.catalog_run.specs.Runs.{CatalogRun, IsRun}
 use Rattle.query_admission.specs.declared.line_outcome.LineOutcome.{LineOutcome}
-use Rattle.topk_laws.specs.Told.{AllBecome, ShelfTellsTables, view_told}
+use Rattle.topk_laws.specs.ToldTables.{AllBecome, ShelfTellsTables, view_told}
 use Rattle.topk_laws.specs.Failures.{RefusesFew}
 use Rattle.topk_laws.specs.Giving.{EachGaveSparingly, EachPlaceRose}
 use Rattle.call_ends.specs.Calls.{Call, WroteWhole, input_limit}

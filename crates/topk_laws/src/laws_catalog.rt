@@ -5,7 +5,7 @@ ghost use Rattle.ranked_list.specs.declared.row.Row.{Row};
 ghost use Rattle.query_run.specs.Causes.{IsRefusedForCause};
 ghost use Rattle.query_admission.specs.declared.line_outcome.LineOutcome.{LineOutcome as AnyOutcome};
 ghost use Rattle.catalog_run.specs.Runs.{CatalogRun, IsRun};
-ghost use Rattle.topk_laws.specs.Told.{AllBecome, ShelfTellsTables, view_told};
+ghost use Rattle.topk_laws.specs.ToldTables.{AllBecome, ShelfTellsTables, view_told};
 ghost use Rattle.topk_laws.specs.Answers.{IsOneOverTold, IsRightLine};
 ghost use Rattle.topk_laws.specs.Failures.{HasFailure, RefusesFew};
 ghost use Rattle.topk_laws.specs.Giving.{EachGaveSparingly, EachPlaceRose, LinesHaveTables};

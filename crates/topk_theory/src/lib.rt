@@ -1,5 +1,6 @@
-//! What topk claims, over whole tables and transcripts: the definitions, and the laws above them. Beside
-//! them rows are put in the order of a ranked list.
+//! What topk claims, over whole tables and transcripts: the definitions, and the laws above them.
+//!
+//! Beside them rows are put in the order of a ranked list.
 #![tactic(auto)]
 
 mod access;

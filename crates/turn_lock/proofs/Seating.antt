@@ -10,7 +10,7 @@ use Rattle.turn_lock.specs.declared.known.Known.{Known}
 use Rattle.turn_lock.specs.Known.{all_parts, KnowsOf, holding, after_turn}
 use Rattle.turn_lock.specs.Rule.{PassState, first_view, spent_view, Ruled}
 use Rattle.turn_lock.specs.Steps.{IsDrawn, Grabs, Watches, Counts, PassesOn, Compares, kept_view, given_view, joined_view}
-use Rattle.turn_lock.specs.Seats.{Rests, InTurn, Waits, Took, MayGive, Gives, Counted, Gave, Poised}
+use Rattle.turn_lock.specs.Seats.{Rests, InTurn, Waits, Took, MayGive, GivesTurn, Counted, Gave, Poised}
 use Rattle.turn_lock.proofs.Turning.{in_hand, grabs, watches, counts, passes_on}
 use Rattle.turn_lock.proofs.Sharing.{covers_first, covers_second, compares, splits, joins, opens, closes}
 
@@ -61,16 +61,16 @@ module _ {V E : Type 0} (facts : V → Facts E) where
   put_in m m' y h e = e ∙ ap (λ (l : List (ℕ × Option V)). (m.0, (0, Some y) ∷ rest l)) h.out
 
   pub gives_now : (m m' : PassState V E) (y : V) (n : ℕ) → InTurn m → MayGive (facts y) m.0.known → n ≡ length (facts y).log
-      → m' ≡ (m.0, (0, Some y) ∷ []) → Gives facts n m'
-  gives_now m m' y n h may long e = subst (λ (z : PassState V E). Gives facts n z) (sym e)
+      → m' ≡ (m.0, (0, Some y) ∷ []) → GivesTurn facts n m'
+  gives_now m m' y n h may long e = subst (λ (z : PassState V E). GivesTurn facts n z) (sym e)
       record { live = h.live; taken = h.taken; holds = h.holds; value = y; hand = refl; may = may; long = long }
 
-  pub counts_at : (slots id n : ℕ) (m : PassState V E) → Gives facts n m
+  pub counts_at : (slots id n : ℕ) (m : PassState V E) → GivesTurn facts n m
       → Allows (Ruled facts) slots id m 2 (λ _. n) (λ _. Counts facts (step slots 2 n 0 slot.none) m n)
   counts_at slots id n m h = counts facts slots id m h.taken h.value n h.holds h.hand h.live (h.may.grows h.taken h.holds)
       (h.may.keeps h.taken h.holds) h.long
 
-  pub gave_now : (m m' : PassState V E) (n : ℕ) → Gives facts n m → Counts facts no_step m 0 m' → Gave facts m'
+  pub gave_now : (m m' : PassState V E) (n : ℕ) → GivesTurn facts n m → Counts facts no_step m 0 m' → Gave facts m'
   gave_now m m' n h c = subst (λ (z : PassState V E). Gave facts z) (sym (c h.taken h.value h.holds h.hand)) record {
     live = h.live;
     value = h.value;

@@ -53,7 +53,7 @@ pub record MayGive {E : Type 0} (given : Facts E) (pass : Known E) : Type 0 wher
 
 module _ {V E : Type 0} (facts : V → Facts E) where
   -- a live pass in its turn with a value in its slot that it may give, with a log of this length
-  pub record Gives (entries : ℕ) (me : PassState V E) : Type 0 where
+  pub record GivesTurn (entries : ℕ) (me : PassState V E) : Type 0 where
     pub live : 0 < me.0.known.parts
     pub taken : Facts E
     pub holds : me.0.known.held ≡ Some taken

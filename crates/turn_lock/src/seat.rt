@@ -4,7 +4,7 @@ ghost use Rattle.turn_lock.specs.declared.facts.Facts.{Facts};
 ghost use Rattle.turn_lock.specs.Known.{KnowsOf, Follows, holding, after_turn, without, split_off, joined};
 ghost use Rattle.turn_lock.specs.Rule.{resting};
 ghost use Rattle.turn_lock.specs.Steps.{IsDrawn};
-ghost use Rattle.turn_lock.specs.Seats.{IsSeatOf, IsSameSeat, Rests, InTurn, Waits, Took, MayGive, Gives, Counted, Gave};
+ghost use Rattle.turn_lock.specs.Seats.{IsSeatOf, IsSameSeat, Rests, InTurn, Waits, Took, MayGive, GivesTurn, Counted, Gave};
 
 use crate::bell::Bell;
 use crate::logged::Logged;
@@ -115,7 +115,7 @@ fn put<V: Logged + Drop>(desk: &Desk<V>, seat: &mut Place<V>, value: V) -> u64
     requires change { MayGive (V.facts value) seat.old.me.0.known }
     ensures same { IsSameSeat seat.old seat.new }
     ensures hand { seat.new.me ≡ (seat.old.me.0, (0, Some value) ∷ []) }
-    ensures gives { Gives V.facts result seat.new.me }
+    ensures gives { GivesTurn V.facts result seat.new.me }
 {
     let length = value.length();
     drop(desk.exchange(seat, 0, Some(value)));
@@ -125,7 +125,7 @@ fn put<V: Logged + Drop>(desk: &Desk<V>, seat: &mut Place<V>, value: V) -> u64
 // Writes the length of the new log. From now on the value in the slot is in force.
 fn count<V: Logged>(desk: &Desk<V>, seat: &mut Place<V>, length: u64)
     requires desk { IsSeatOf desk.now.table_id seat.old.table_id }
-    requires gives { Gives V.facts length seat.old.me }
+    requires gives { GivesTurn V.facts length seat.old.me }
     ensures same { IsSameSeat seat.old seat.new }
     ensures given { Gave V.facts seat.new.me }
     ensures counted { Counted V.facts seat.old.me seat.new.me }

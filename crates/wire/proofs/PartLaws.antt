@@ -5,7 +5,7 @@ use Rattle.std.proofs.lemmas.List.{take-append-drop, take-append-le}
 use Rattle.std.proofs.Math.Dec.{leb}
 use Rattle.std.proofs.Math.Seq.{take-append_seam}
 use Rattle.wire.specs.Parts.{Reads, HasNone, PassesBytes, Finds, Takes}
-use Rattle.wire.specs.Told.{told, SameTold}
+use Rattle.wire.specs.LinkTold.{told, SameTold}
 use Rattle.wire.specs.declared.found.Found.{Found}
 use Rattle.wire.specs.declared.fault.WireFault.{WireFault}
 use Rattle.wire.specs.declared.fault.WireFault.TheVariants.{LinkFault, BadMessage, TooLong, Memory}

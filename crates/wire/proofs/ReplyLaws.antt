@@ -9,7 +9,7 @@ use Rattle.wire.specs.Heads.{AnswersRequest, PassesRequest, has_host}
 use Rattle.wire.specs.Parts.{Takes}
 use Rattle.wire.specs.Responses.{is_interim, framing_in, PassesHead, AnswersResponse}
 use Rattle.wire.specs.Steps.{SaysResponse, AnswersBody}
-use Rattle.wire.specs.Told.{told}
+use Rattle.wire.specs.LinkTold.{told}
 use Rattle.wire.specs.declared.fault.WireFault.{WireFault}
 use Rattle.wire.specs.declared.fault.WireFault.TheVariants.{LinkFault, BadMessage, TooLong, Memory}
 use Rattle.wire.specs.declared.framing.Framing.{Framing}

@@ -8,7 +8,7 @@ use Rattle.httparse.specs.Grammar.{IsChunkLine, print_chunk_line, chunk_size}
 use Rattle.wire.specs.Bodies.{Chunk, IsChunk, print_chunk, IsLast, AreChunks, print_chunks, contents, HaveShortLines, ChunkedBody, IsChunkedBody, print_chunked, Trailers, AreTrailers, print_trailers, PassesChunk, PassesChunks, PassesTrailers, PassesLine, Body, absent, in_chunks, of_length, to_end, Frames}
 use Rattle.wire.specs.Parts.{HasNone, Takes}
 use Rattle.wire.specs.Steps.{SaysSize, SaysNothing, TakesBytes, TakesText, TakesChunk, TakesChunks, AnswersBody}
-use Rattle.wire.specs.Told.{told}
+use Rattle.wire.specs.LinkTold.{told}
 use Rattle.wire.specs.declared.fault.WireFault.{WireFault}
 use Rattle.wire.specs.declared.fault.WireFault.TheVariants.{LinkFault, BadMessage, TooLong, Memory}
 use Rattle.wire.specs.declared.framing.Framing.TheVariants.{Chunked, Length, ToEnd}

@@ -2,7 +2,7 @@
 use Rattle.std.proofs.Common.{◌≡◌, ℕ, List, ◌++◌, Option, Some, None, IfSome, take, drop, sym, ap, subst, ◌∙◌, append_assoc, append-nil}
 use Rattle.std.proofs.lemmas.List.{take-append-drop}
 use Rattle.std.specs.Io.KnownBytes.{Consumes, IsAtEnd}
-use Rattle.wire.specs.Told.{told, SameTold}
+use Rattle.wire.specs.LinkTold.{told, SameTold}
 
 -- what a read gave is behind what came
 pub same_grown : (came came_now piece : List ℕ) (left left_now : Option (List ℕ)) → came_now ≡ came ++ piece → Consumes left left_now piece

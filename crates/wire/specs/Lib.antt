@@ -5,7 +5,7 @@ pub mod Heads
 pub mod Parts
 pub mod Responses
 pub mod Steps
-pub mod Told
+pub mod LinkTold
 pub mod Wording
 pub mod Writing
 -- What targets and query parts say.

@@ -7,7 +7,7 @@ ghost use Rattle.httparse.specs.Spans.{IsSectionOf};
 ghost use Rattle.wire.specs.Bodies.{AreTrailers, print_trailers, PassesLine, PassesTrailers};
 ghost use Rattle.wire.specs.Parts.{Finds, Takes};
 ghost use Rattle.wire.specs.Steps.{SaysSize, SaysNothing, TakesBytes, TakesText, TakesChunk, TakesChunks};
-ghost use Rattle.wire.specs.Told.{told, Counts};
+ghost use Rattle.wire.specs.LinkTold.{told, Counts};
 
 use super::WireFault;
 use super::feed::Feed;

@@ -2,7 +2,7 @@
 
 ghost use Rattle.std.specs.Prelude.{◌≡◌, ◌+◌, ◌≤◌, ◌<◌, ◌++◌, ℕ, List, [], length, drop, IfOk, IfErr, OnOk, OnErr};
 ghost use Rattle.std.specs.Io.KnownBytes.{Consumes, IsAtEnd};
-ghost use Rattle.wire.specs.Told.{told, SameTold, Counts, IsOutside};
+ghost use Rattle.wire.specs.LinkTold.{told, SameTold, Counts, IsOutside};
 
 use super::WireFault;
 use std::alloc::Global;

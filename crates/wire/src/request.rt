@@ -6,7 +6,7 @@ ghost use Rattle.httparse.specs.Spans.{IsRequestWithin, IsRequestOf};
 ghost use Rattle.wire.specs.Asking.{SaysRequest};
 ghost use Rattle.wire.specs.Heads.{AnswersRequest, PassesRequest};
 ghost use Rattle.wire.specs.Parts.{Finds, Takes};
-ghost use Rattle.wire.specs.Told.{told, Counts};
+ghost use Rattle.wire.specs.LinkTold.{told, Counts};
 ghost use Rattle.wire.specs.declared.fault.WireFault.TheVariants.{BadMessage};
 
 use super::WireFault;

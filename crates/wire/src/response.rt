@@ -6,7 +6,7 @@ ghost use Rattle.httparse.specs.Spans.{IsResponseWithin, IsResponseOf};
 ghost use Rattle.wire.specs.Parts.{Finds, Takes};
 ghost use Rattle.wire.specs.Responses.{is_interim, AnswersResponse, PassesHead};
 ghost use Rattle.wire.specs.Steps.{SaysResponse, AnswersBody};
-ghost use Rattle.wire.specs.Told.{told, Counts};
+ghost use Rattle.wire.specs.LinkTold.{told, Counts};
 ghost use Rattle.wire.specs.declared.framing.Framing.TheVariants.{Chunked, Length, ToEnd};
 
 use super::chunks::{take_bytes, take_chunks, take_trailers};

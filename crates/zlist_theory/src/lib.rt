@@ -1,5 +1,4 @@
-//! The threshold algorithm over lists of which some can't be read in order: its definitions over whole tables, and the laws above
-//! them, with no code.
+//! The threshold algorithm over lists of which some can't be read in order: definitions over whole tables, and laws, with no code.
 #![tactic(auto)]
 
 mod laws;

@@ -17,8 +17,8 @@ loop-slot-init g c = record {
   back = back_none c.args.catalog.now c.args.places.now (map (of_slot g.H.Item.Source.counts) c.args.slots.items) (g.H.Shelf.at c.args.shelf.now);
 }
 
-pub place_of-requires : goal.place_of-requires
-place_of-requires g c =
+pub place_of_entry-requires : goal.place_of_entry-requires
+place_of_entry-requires g c =
     let inside = rest_within c.loop-slot.slots.items c.pop.new.self.items c.in-Some.slot c.args.places.now c.in-Some.ensures.items c.loop-slot.invariant.few in
     (c.loop-slot.invariant.known c.len.result 0 (omega (arith, inside, c.len.ensures, c.pop.new.self.ok.0))).within
 
@@ -29,7 +29,7 @@ pub loop-slot-preserved : goal.loop-slot-preserved
 loop-slot-preserved g c =
     let inv = c.loop-slot.invariant in
     let place = slice_index_or c.args.places.now c.len.result 0 in
-    let at = sym c.place_of.ensures in
+    let at = sym c.place_of_entry.ensures in
     let inside = rest_within c.loop-slot.slots.items c.pop.new.self.items c.in-Some.slot c.args.places.now c.in-Some.ensures.items inv.few in
     let known = inv.known c.len.result 0 (omega (arith, inside, c.len.ensures, c.pop.new.self.ok.0)) in
     record {
@@ -39,11 +39,11 @@ loop-slot-preserved g c =
       known = known_on c.args.catalog.now (g.H.Shelf.knows c.loop-slot.shelf) (g.H.Shelf.knows c.put_back.new.self) c.args.places.now c.put_back.ensures.known inv.known;
       idle = idle_rest c.loop-slot.slots.items c.pop.new.self.items c.in-Some.slot inv.idle c.in-Some.ensures.items;
       few = omega (arith, inside);
-      back = back_step c.args.catalog.now c.args.places.now (map (of_slot g.H.Item.Source.counts) c.args.slots.items) (map (of_slot g.H.Item.Source.counts) c.loop-slot.slots.items) (map (of_slot g.H.Item.Source.counts) c.pop.new.self.items) (of_slot g.H.Item.Source.counts c.in-Some.slot) place c.place_of.result.now
-          (g.H.Shelf.knows c.loop-slot.shelf c.place_of.result.now) (g.H.Shelf.at c.args.shelf.now) (g.H.Shelf.at c.loop-slot.shelf) (g.H.Shelf.at c.put_back.new.self) inv.back
+      back = back_step c.args.catalog.now c.args.places.now (map (of_slot g.H.Item.Source.counts) c.args.slots.items) (map (of_slot g.H.Item.Source.counts) c.loop-slot.slots.items) (map (of_slot g.H.Item.Source.counts) c.pop.new.self.items) (of_slot g.H.Item.Source.counts c.in-Some.slot) place c.place_of_entry.result.now
+          (g.H.Shelf.knows c.loop-slot.shelf c.place_of_entry.result.now) (g.H.Shelf.at c.args.shelf.now) (g.H.Shelf.at c.loop-slot.shelf) (g.H.Shelf.at c.put_back.new.self) inv.back
           (ap (map (of_slot g.H.Item.Source.counts)) c.in-Some.ensures.items ∙ map-append (of_slot g.H.Item.Source.counts) c.pop.new.self.items (c.in-Some.slot ∷ []))
           (length-map c.args.slots.items (of_slot g.H.Item.Source.counts) ∙ c.requires.many)
           (ap (λ n. slice_index_or c.args.places.now n 0) (omega (arith, length-map c.pop.new.self.items (of_slot g.H.Item.Source.counts), c.len.ensures, c.pop.new.self.ok.0)))
           at (subst (λ t. g.H.Shelf.knows c.loop-slot.shelf t ≡ true) at known.known) c.put_back.ensures.elsewhere
-          (subst (λ source. g.H.Shelf.at c.put_back.new.self c.place_of.result.now ≡ put_back_at (g.H.Shelf.knows c.loop-slot.shelf c.place_of.result.now) (g.H.Item.Source.counts source) (g.H.Shelf.at c.loop-slot.shelf c.place_of.result.now)) c.into_source.ensures c.put_back.ensures.counts);
+          (subst (λ source. g.H.Shelf.at c.put_back.new.self c.place_of_entry.result.now ≡ put_back_at (g.H.Shelf.knows c.loop-slot.shelf c.place_of_entry.result.now) (g.H.Item.Source.counts source) (g.H.Shelf.at c.loop-slot.shelf c.place_of_entry.result.now)) c.into_source.ensures c.put_back.ensures.counts);
     }

@@ -1,7 +1,7 @@
 use Rattle.std.proofs.Common.{sym, subst}
 use Rattle.source_state.specs.Events.{MayCome}
 use Rattle.fetcher.specs.Turning.{IsOfSource, IsFed}
-use Rattle.fetcher.specs.Calling.{IsTold}
+use Rattle.fetcher.specs.Calling.{PutsEvent}
 use Rattle.fetcher.proofs.BringLaws.{trouble_source}
 use Rattle.fetcher.proofs.fetch.tell_trouble.Goals as goal
 
@@ -15,4 +15,4 @@ pub returns-clause-fed : goal.returns-clause-fed
 returns-clause-fed g c = subst (λ event. IsFed event c.args.feeder.now.pass.1 c.tell.new.feeder.pass.1) c.trouble_event-event.ensures c.tell.ensures.fed
 
 pub returns-clause-told : goal.returns-clause-told
-returns-clause-told g c = subst (λ event. IsTold event c.args.feeder.now.pass.1 c.tell.new.feeder.pass.1) c.trouble_event-event.ensures c.tell.ensures.told
+returns-clause-told g c = subst (λ event. PutsEvent event c.args.feeder.now.pass.1 c.tell.new.feeder.pass.1) c.trouble_event-event.ensures c.tell.ensures.told

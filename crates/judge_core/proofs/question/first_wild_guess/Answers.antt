@@ -26,8 +26,8 @@ returns-in_default-clause-guess c =
     let t = YieldsList-turn (YieldsList-from_slice accesses c.iter-access-items.ensures.rest) c.loop-place.yielded _ c.loop-place.yielded_by _ _ c.in-Some.access c.in-Some.is c.next.ensures.steps in
     let at : slice_get accesses place ≡ Some c.in-Some.access.now = rw c.loop-place.invariant.place (slice_get-get_or accesses (length c.loop-place.yielded) c.in-Some.access.now t.0 ∙ ap Some (sym t.1)) in
     subst (λ o. MatchOption o (IsFirstWildGuess accesses (place + 1)) (HasWalked accesses (place + 1))) c.in_default.is
-    (walked accesses place c.loop-place.seen c.in-Some.access.now c.place_of-sight.result c.is_sorted.result c.seen_after.result c.loop-place.invariant.walked at
-    (c.place_of-sight.ensures ∙ ap (λ o. position (nat_eq o) (seen_objects accesses)) c.object.ensures) c.is_sorted.ensures c.seen_after.ensures)
+    (walked accesses place c.loop-place.seen c.in-Some.access.now c.sight_of-sight.result c.is_sorted.result c.seen_after.result c.loop-place.invariant.walked at
+    (c.sight_of-sight.ensures ∙ ap (λ o. position (nat_eq o) (seen_objects accesses)) c.object.ensures) c.is_sorted.ensures c.seen_after.ensures)
 
 pub loop-place-preserved : goal.loop-place-preserved
 loop-place-preserved c =
@@ -38,8 +38,8 @@ loop-place-preserved c =
     record {
       place = omega (arith, c.loop-place.invariant.place, length_push c.loop-place.yielded c.in-Some.access);
       walked = subst (λ o. MatchOption o (IsFirstWildGuess accesses (place + 1)) (HasWalked accesses (place + 1))) c.in-Some-seen_after.is
-          (walked accesses place c.loop-place.seen c.in-Some.access.now c.place_of-sight.result c.is_sorted.result c.seen_after.result c.loop-place.invariant.walked at
-          (c.place_of-sight.ensures ∙ ap (λ o. position (nat_eq o) (seen_objects accesses)) c.object.ensures) c.is_sorted.ensures c.seen_after.ensures);
+          (walked accesses place c.loop-place.seen c.in-Some.access.now c.sight_of-sight.result c.is_sorted.result c.seen_after.result c.loop-place.invariant.walked at
+          (c.sight_of-sight.ensures ∙ ap (λ o. position (nat_eq o) (seen_objects accesses)) c.object.ensures) c.is_sorted.ensures c.seen_after.ensures);
     }
 
 pub returns-clause-guess : goal.returns-clause-guess

@@ -3,12 +3,12 @@ use Rattle.ranked_list.specs.declared.need.Need.{Need}
 use Rattle.source_pool.specs.Looks.{MayLookFor}
 use Rattle.source_pool.specs.Passes.{hold_at}
 use Rattle.query_run.specs.Inquiries.{list_needed}
-use Rattle.query_run.proofs.Steps.{place_of, source_read, at_need, looked_may, looks_once}
+use Rattle.query_run.proofs.Steps.{placed_at, source_read, at_need, looked_may, looks_once}
 use Rattle.query_run.proofs.run.look_once.Goals as goal
 
 pub look-look-requires-clause-need : goal.look-look-requires-clause-need
 look-look-requires-clause-need g c =
-    let place = place_of c.args.pass.now c.args.query.now c.requires.reading c.requires.going in
+    let place = placed_at c.args.pass.now c.args.query.now c.requires.reading c.requires.going in
     let at = source_read c.args.pass.now c.args.query.now c.need-need.result c.from.result c.index-source.result.now place
     c.need-need.ensures.need (c.from.ensures ∙ c.list_needed-list.ensures) c.index-source.ensures in
     subst (λ (z : ℕ × Need). MayLookFor (hold_at c.args.pass.now z.0).pass.1 z.1) (λ i. (sym at i, sym c.need-need.ensures.need i)) place.may
@@ -49,7 +49,7 @@ returns-clause-look g c =
 
 pub rest-requires-clause-may : goal.rest-requires-clause-may
 rest-requires-clause-may g c =
-    let place = place_of c.args.pass.now c.args.query.now c.requires.reading c.requires.going in
+    let place = placed_at c.args.pass.now c.args.query.now c.requires.reading c.requires.going in
     let at = source_read c.args.pass.now c.args.query.now c.need-need.result c.from.result c.index-source.result.now place
     c.need-need.ensures.need (c.from.ensures ∙ c.list_needed-list.ensures) c.index-source.ensures in
     let there = place.there in
@@ -58,7 +58,7 @@ rest-requires-clause-may g c =
 
 pub rest-requires-clause-stays : goal.rest-requires-clause-stays
 rest-requires-clause-stays g c =
-    let place = place_of c.args.pass.now c.args.query.now c.requires.reading c.requires.going in
+    let place = placed_at c.args.pass.now c.args.query.now c.requires.reading c.requires.going in
     let at = source_read c.args.pass.now c.args.query.now c.need-need.result c.from.result c.index-source.result.now place
     c.need-need.ensures.need (c.from.ensures ∙ c.list_needed-list.ensures) c.index-source.ensures in
     let there = place.there in

@@ -1,5 +1,5 @@
 use Rattle.std.proofs.Common.{Ok, Err, refl, subst, ◌∙◌}
-use Rattle.wire.specs.Told.{Counts}
+use Rattle.wire.specs.LinkTold.{Counts}
 use Rattle.wire.specs.declared.request.Head.{Head}
 use Rattle.wire.specs.declared.fault.WireFault.{WireFault}
 use Rattle.wire.specs.declared.fault.WireFault.TheVariants as heard

@@ -1,6 +1,6 @@
 use Rattle.std.proofs.Common.{refl, arith}
 use Rattle.std.proofs.lemmas.Result.{err_from_is_err_and}
-use Rattle.wire.specs.Told.{told}
+use Rattle.wire.specs.LinkTold.{told}
 use Rattle.wire.proofs.StepLaws.{chunk_cut, chunk_open, chunk_taken}
 use Rattle.wire.proofs.chunks.take_chunk.Goals as goal
 

@@ -1,6 +1,6 @@
 use Rattle.std.proofs.Common.{◌∙◌, arith}
 use Rattle.std.proofs.lemmas.Result.{err_from_is_err_and}
-use Rattle.wire.specs.Told.{told}
+use Rattle.wire.specs.LinkTold.{told}
 use Rattle.wire.proofs.StepLaws.{chunks_cut, chunks_more, body_grew}
 use Rattle.wire.proofs.chunks.take_chunks.Goals as goal
 

@@ -1,4 +1,4 @@
-use Rattle.wire.specs.Told.{told}
+use Rattle.wire.specs.LinkTold.{told}
 use Rattle.wire.proofs.ReplyLaws.{host_from}
 use Rattle.wire.proofs.request.read_request.Goals as goal
 

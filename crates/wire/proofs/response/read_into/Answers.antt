@@ -1,5 +1,5 @@
 use Rattle.std.proofs.Common.{sym, ◌∙◌}
-use Rattle.wire.specs.Told.{told}
+use Rattle.wire.specs.LinkTold.{told}
 use Rattle.wire.proofs.ReplyLaws.{start_interim, start_unframed, body_cut}
 use Rattle.wire.proofs.response.read_into.Goals as goal
 

@@ -1,5 +1,5 @@
 use Rattle.std.proofs.lemmas.Result.{err_from_is_err_and}
-use Rattle.wire.specs.Told.{told}
+use Rattle.wire.specs.LinkTold.{told}
 use Rattle.wire.proofs.StepLaws.{chunked_cut, trailers_cut, chunked_taken}
 use Rattle.wire.proofs.response.take_chunked.Goals as goal
 

@@ -1,5 +1,5 @@
 use Rattle.std.proofs.Common.{arith}
-use Rattle.wire.specs.Told.{told}
+use Rattle.wire.specs.LinkTold.{told}
 use Rattle.wire.proofs.StepLaws.{rest_ended}
 use Rattle.wire.proofs.response.take_rest.Goals as goal
 

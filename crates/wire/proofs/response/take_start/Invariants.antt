@@ -1,5 +1,5 @@
 use Rattle.std.proofs.Common.{◌≡◌, ◌-◌, length}
-use Rattle.wire.specs.Told.{SameTold}
+use Rattle.wire.specs.LinkTold.{SameTold}
 use Rattle.wire.proofs.response.take_start.Given as goal
 
 -- nothing was taken yet, and no read failed

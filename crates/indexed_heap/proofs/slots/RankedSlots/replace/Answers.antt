@@ -1,5 +1,5 @@
 use Rattle.std.proofs.Common.{◌≡◌, ◌<◌, sym, subst, arith, length, slice_get, slice_set, Some, None}
-use Rattle.indexed_heap.specs.Slots.{HasNone}
+use Rattle.indexed_heap.specs.Slots.{HasNoSlot}
 use Rattle.indexed_heap.specs.Slots.{Slots}
 use Rattle.indexed_heap.proofs.SlotChanges.{distinct_keys, replaced, at_slot}
 use Rattle.indexed_heap.proofs.slots.RankedSlots.replace.Goals as goal
@@ -16,7 +16,7 @@ invariant_of-self c =
     replaced i.most i.entries.cap i.entries.items i.ranks c.put.new.self i.slots.items c.args.slot c.index.result.now c.args.key c.args.rank c.self.invariant
     (subst (λ (s : Slots). c.args.slot < length s.entries) (sym c.self.view_is) c.requires.slot) c.index.ensures
     (subst (λ (s : Slots). c.args.key < s.room) (sym c.self.view_is) c.requires.within)
-    (subst (λ (s : Slots). HasNone s.entries c.args.key) (sym c.self.view_is) c.requires.absent) c.put.ensures
+    (subst (λ (s : Slots). HasNoSlot s.entries c.args.key) (sym c.self.view_is) c.requires.absent) c.put.ensures
 
 pub returns-clause-leaves : goal.returns-clause-leaves
 returns-clause-leaves c =

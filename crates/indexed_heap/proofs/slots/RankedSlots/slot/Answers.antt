@@ -1,5 +1,5 @@
 use Rattle.std.proofs.Common.{◌<◌, sym, subst, MatchOption}
-use Rattle.indexed_heap.specs.Slots.{HasNone, IsAt}
+use Rattle.indexed_heap.specs.Slots.{HasNoSlot, IsAt}
 use Rattle.indexed_heap.specs.Slots.{Slots}
 use Rattle.indexed_heap.proofs.SlotChanges.{slot_found, get_or_any}
 use Rattle.indexed_heap.proofs.slots.RankedSlots.slot.Goals as goal
@@ -7,5 +7,5 @@ use Rattle.indexed_heap.proofs.slots.RankedSlots.slot.Goals as goal
 pub returns : goal.returns
 returns c =
     let i = c.self.inside in
-    subst (λ (s : Slots). MatchOption c.index.result.now (HasNone s.entries c.args.key) (IsAt s.entries c.args.key)) c.self.view_is
+    subst (λ (s : Slots). MatchOption c.index.result.now (HasNoSlot s.entries c.args.key) (IsAt s.entries c.args.key)) c.self.view_is
     (slot_found i.most i.entries.cap i.entries.items i.ranks i.slots.items c.args.key c.index.result.now c.self.invariant (get_or_any i.slots.items c.args.key c.index.result.now (subst (λ (s : Slots). c.args.key < s.room) (sym c.self.view_is) c.requires) c.index.ensures))

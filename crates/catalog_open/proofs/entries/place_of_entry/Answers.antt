@@ -2,7 +2,7 @@ use Rattle.std.proofs.Common.{sym, arith}
 use Rattle.ranked_list.proofs.Members.{past_end}
 use Rattle.catalog_text.specs.Listed.{listed}
 use Rattle.catalog_open.proofs.Opens.{entry_place}
-use Rattle.catalog_open.proofs.entries.place_of.Goals as goal
+use Rattle.catalog_open.proofs.entries.place_of_entry.Goals as goal
 
 pub unreachable-requires : goal.unreachable-requires
 unreachable-requires c =
