@@ -6,7 +6,6 @@ mod mem_list;
 mod need;
 mod objects;
 mod order;
-mod page_rows;
 mod row;
 mod table;
 
@@ -15,6 +14,5 @@ pub use limits::Memory;
 pub use mem_list::MemList;
 pub use need::Need;
 pub use order::{RowFault, check_next};
-pub use page_rows::PageRows;
-pub use row::Row;
+pub use row::{PageRows, Row};
 pub use table::is_table;

@@ -1,4 +1,6 @@
-//! One row of a ranked list.
+//! One row of a ranked list, and rows as they come.
+
+use listed::Listed;
 
 /// An object and its grade in one list.
 #[derive(Clone, Copy, Debug, PartialEq, Eq)]
@@ -6,3 +8,6 @@ pub struct Row {
     pub object: u32,
     pub grade: u32,
 }
+
+/// The rows of one page, in order.
+pub type PageRows = Listed<Row>;
