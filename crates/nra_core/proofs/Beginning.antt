@@ -7,7 +7,7 @@ use Rattle.indexed_heap.specs.declared.slots.Entry.{Entry}
 use Rattle.indexed_heap.specs.Slots.{Slots}
 use Rattle.topk_theory.specs.Bounds.{low, high}
 use Rattle.topk_theory.proofs.AgreementLists.{contains_nil}
-use Rattle.nra_core.specs.Late.{KeepsLate}
+use Rattle.nra_core.specs.Late.{KeepsCandidates}
 use Rattle.monotone_fn.specs.Tree.{Tree}
 use Rattle.monotone_fn.specs.Value.{value}
 use Rattle.nra_core.specs.LatePlaces.{IsLate, IsLateAfter, is_first, is_candidate}
@@ -18,7 +18,7 @@ least_of_none k = omega arith
 no_slot : (slot : ℕ) (entry : Entry) → slice_get [] slot ≡ Some entry → ⊥
 no_slot slot entry at = none-some entry (sym (slice_get_past [] slot (omega arith)) ∙ at)
 
-keeps_none : (low high : ℕ → ℕ) (k room : ℕ) → KeepsLate k low high [] (is_first [] []) (is_candidate [] (replicate room None))
+keeps_none : (low high : ℕ → ℕ) (k room : ℕ) → KeepsCandidates k low high [] (is_first [] []) (is_candidate [] (replicate room None))
 keeps_none low high k room = record {
   first = record {
     sized = least_of_none k;

@@ -5,7 +5,7 @@ use Rattle.std.proofs.lemmas.Bool.{cases_Bool, cases_lt, cases_eq, false≢true,
 use Rattle.std.proofs.lemmas.List.Elements.{Contains-append_left}
 use Rattle.topk_theory.proofs.AgreementLists.{contains_nil}
 use Rattle.nra_core.proofs.Stop.{counted_top}
-use Rattle.nra_core.specs.Late.{AreApart, AreFirstByLow, IsLeastLow, is_tied, is_open, AreOthersWithin, KeepsLate, with_one, without, exchanged, IsWitness, AreNextBounds}
+use Rattle.nra_core.specs.Late.{AreApart, AreFirstByLow, IsLeastLow, is_tied, is_open, AreOthersWithin, KeepsCandidates, with_one, without, exchanged, IsWitness, AreNextBounds}
 use Rattle.topk_theory.proofs.Counts.{count_le, count_less, count_same}
 use Rattle.nra_core.proofs.SetCounts.{with_itself, with_other, without_itself, without_other}
 use Rattle.nra_core.proofs.Members.{differs, in_exchanged, not_in_exchanged, exchange_first, exchange_least, all_in, least_rises, first_of_member, first_of_few, first_of_outside, first_of_exchange}
@@ -16,7 +16,7 @@ abbrev pub WereOutside : List ℕ → (ℕ → Bool) → (ℕ → Bool) → List
 WereOutside seen is_top is_candidate now then candidate_then = (object : ℕ) → Contains now object → then object ≡ false → candidate_then object ≡ false → Contains seen object × (is_top object ≡ false) × (is_candidate object ≡ false)
 
 pub given_up_stays : (k : ℕ) (low high next next_high : ℕ → ℕ) (seen more : List ℕ) (is_top is_candidate then candidate_then : ℕ → Bool) (object : ℕ)
-    → AreNextBounds low high next next_high object → KeepsLate k low high seen is_top is_candidate → AreFirstByLow k next (seen ++ more) then
+    → AreNextBounds low high next next_high object → KeepsCandidates k low high seen is_top is_candidate → AreFirstByLow k next (seen ++ more) then
     → WereOutside seen is_top is_candidate (seen ++ more) then candidate_then → (inside outside : ℕ) → then inside ≡ true
     → Contains (seen ++ more) outside → then outside ≡ false → candidate_then outside ≡ false → next_high outside ≤ next inside
 given_up_stays k low high next next_high seen more is_top is_candidate then candidate_then object bounds keeps later were inside outside t c f g =
@@ -34,8 +34,8 @@ given_up_stays k low high next next_high seen more is_top is_candidate then cand
 -- ---- one more access
 -- it names one of the first
 pub keeps_of_member : (k : ℕ) (low high next next_high : ℕ → ℕ) (seen : List ℕ) (is_top is_candidate : ℕ → Bool) (object : ℕ)
-    → AreNextBounds low high next next_high object → KeepsLate k low high seen is_top is_candidate → is_top object ≡ true
-    → KeepsLate k next next_high seen is_top is_candidate
+    → AreNextBounds low high next next_high object → KeepsCandidates k low high seen is_top is_candidate → is_top object ≡ true
+    → KeepsCandidates k next next_high seen is_top is_candidate
 keeps_of_member k low high next next_high seen is_top is_candidate object bounds keeps named = record {
   first = first_of_member k low high next next_high seen is_top object bounds keeps.first named;
   apart = keeps.apart;
@@ -48,8 +48,8 @@ keeps_of_member k low high next next_high seen is_top is_candidate object bounds
 
 -- a new object, while fewer than k are seen
 pub keeps_of_few : (k : ℕ) (low high next next_high : ℕ → ℕ) (seen : List ℕ) (is_top is_candidate : ℕ → Bool) (object : ℕ)
-    → AreNextBounds low high next next_high object → length seen < k → KeepsLate k low high seen is_top is_candidate
-    → KeepsLate k next next_high (seen ++ object ∷ []) (with_one is_top object) is_candidate
+    → AreNextBounds low high next next_high object → length seen < k → KeepsCandidates k low high seen is_top is_candidate
+    → KeepsCandidates k next next_high (seen ++ object ∷ []) (with_one is_top object) is_candidate
 keeps_of_few k low high next next_high seen is_top is_candidate object bounds few keeps =
     let now = seen ++ object ∷ [] in
     let first : AreFirstByLow k next now (with_one is_top object) = first_of_few k low next seen is_top object few keeps.first in
@@ -71,8 +71,8 @@ pub record NamesOutside (k : ℕ) (seen more : List ℕ) (is_top : ℕ → Bool)
 
 -- its low isn't above that of any of the first: those stay, and it is a candidate
 pub keeps_of_outside : (k : ℕ) (low high next next_high : ℕ → ℕ) (seen more : List ℕ) (is_top is_candidate : ℕ → Bool) (object : ℕ)
-    → AreNextBounds low high next next_high object → NamesOutside k seen more is_top object → KeepsLate k low high seen is_top is_candidate
-    → ((inside : ℕ) → is_top inside ≡ true → next object ≤ low inside) → KeepsLate k next next_high (seen ++ more) is_top (with_one is_candidate object)
+    → AreNextBounds low high next next_high object → NamesOutside k seen more is_top object → KeepsCandidates k low high seen is_top is_candidate
+    → ((inside : ℕ) → is_top inside ≡ true → next object ≤ low inside) → KeepsCandidates k next next_high (seen ++ more) is_top (with_one is_candidate object)
 keeps_of_outside k low high next next_high seen more is_top is_candidate object bounds names keeps below =
     let first : AreFirstByLow k next (seen ++ more) is_top = first_of_outside k low high next next_high seen more is_top object names.enough bounds keeps.first names.outside names.others names.only below in
     record {
@@ -90,8 +90,8 @@ keeps_of_outside k low high next next_high seen more is_top is_candidate object 
 -- the same where it was seen before: it need not become a candidate again
 pub keeps_of_known : (k : ℕ) (low high next next_high : ℕ → ℕ) (seen : List ℕ) (is_top is_candidate : ℕ → Bool) (object : ℕ)
     → AreNextBounds low high next next_high object → k ≤ length seen → Contains seen object → is_top object ≡ false
-    → KeepsLate k low high seen is_top is_candidate → ((inside : ℕ) → is_top inside ≡ true → next object ≤ low inside)
-    → KeepsLate k next next_high seen is_top is_candidate
+    → KeepsCandidates k low high seen is_top is_candidate → ((inside : ℕ) → is_top inside ≡ true → next object ≤ low inside)
+    → KeepsCandidates k next next_high seen is_top is_candidate
 keeps_of_known k low high next next_high seen is_top is_candidate object bounds enough there out keeps below = record {
   first = record {
     sized = keeps.first.sized;
@@ -116,9 +116,9 @@ keeps_of_known k low high next next_high seen is_top is_candidate object bounds 
 
 -- its low isn't below the least of the first: it takes the place of one that has the least, which joins the candidates
 pub keeps_of_exchange : (k : ℕ) (low high next next_high : ℕ → ℕ) (seen more : List ℕ) (is_top is_candidate : ℕ → Bool) (object leaves : ℕ)
-    → AreNextBounds low high next next_high object → NamesOutside k seen more is_top object → KeepsLate k low high seen is_top is_candidate
+    → AreNextBounds low high next next_high object → NamesOutside k seen more is_top object → KeepsCandidates k low high seen is_top is_candidate
     → is_top leaves ≡ true → ((inside : ℕ) → is_top inside ≡ true → low leaves ≤ low inside) → low leaves ≤ next object
-    → KeepsLate k next next_high (seen ++ more) (exchanged is_top leaves object) (exchanged is_candidate object leaves)
+    → KeepsCandidates k next next_high (seen ++ more) (exchanged is_top leaves object) (exchanged is_candidate object leaves)
 keeps_of_exchange k low high next next_high seen more is_top is_candidate object leaves bounds names keeps member least above =
     let apart_two : leaves ≢ object = differs is_top leaves object member names.outside in
     let first : AreFirstByLow k next (seen ++ more) (exchanged is_top leaves object) =
@@ -144,8 +144,8 @@ keeps_of_exchange k low high next next_high seen more is_top is_candidate object
 -- ---- one step of the walk
 -- a candidate whose high is no greater than the bound is given up
 pub keeps_of_giving_up : (k : ℕ) (low high : ℕ → ℕ) (seen : List ℕ) (is_top is_candidate : ℕ → Bool) (bound object : ℕ)
-    → KeepsLate k low high seen is_top is_candidate → IsLeastLow low is_top bound → high object ≤ bound
-    → KeepsLate k low high seen is_top (without is_candidate object)
+    → KeepsCandidates k low high seen is_top is_candidate → IsLeastLow low is_top bound → high object ≤ bound
+    → KeepsCandidates k low high seen is_top (without is_candidate object)
 keeps_of_giving_up k low high seen is_top is_candidate bound object keeps least within = record {
   first = keeps.first;
   apart = λ o t. keeps.apart o (was_in is_candidate object o t);
@@ -160,8 +160,8 @@ keeps_of_giving_up k low high seen is_top is_candidate bound object keeps least 
 
 -- a candidate whose low is the bound takes the place of one of the first whose low is the bound and whose high is no greater; that one is given up
 pub keeps_of_tie : (k : ℕ) (low high : ℕ → ℕ) (seen : List ℕ) (is_top is_candidate : ℕ → Bool) (bound object leaves : ℕ) → AreApart seen
-    → KeepsLate k low high seen is_top is_candidate → IsLeastLow low is_top bound → is_candidate object ≡ true → low object ≡ bound → is_top leaves ≡ true
-    → low leaves ≡ bound → high leaves ≤ bound → KeepsLate k low high seen (exchanged is_top leaves object) (without is_candidate object)
+    → KeepsCandidates k low high seen is_top is_candidate → IsLeastLow low is_top bound → is_candidate object ≡ true → low object ≡ bound → is_top leaves ≡ true
+    → low leaves ≡ bound → high leaves ≤ bound → KeepsCandidates k low high seen (exchanged is_top leaves object) (without is_candidate object)
 keeps_of_tie k low high seen is_top is_candidate bound object leaves apart keeps least candidate tied member at_bound within =
     let of = keeps.apart object candidate in
     let first : AreFirstByLow k low seen (exchanged is_top leaves object) = exchange_first k low seen is_top leaves object apart (record {
@@ -203,7 +203,7 @@ open_parts low high bound object t =
 
 -- where no candidate has a high above the bound the others are within it
 pub within_candidates : (k : ℕ) (low high : ℕ → ℕ) (seen : List ℕ) (is_top is_candidate : ℕ → Bool) (bound : ℕ)
-    → KeepsLate k low high seen is_top is_candidate → IsLeastLow low is_top bound → ((object : ℕ) → is_candidate object ≡ true → high object ≤ bound)
+    → KeepsCandidates k low high seen is_top is_candidate → IsLeastLow low is_top bound → ((object : ℕ) → is_candidate object ≡ true → high object ≤ bound)
     → AreOthersWithin low high seen is_top bound
 within_candidates k low high seen is_top is_candidate bound keeps least none =
     let reached = least.reached in
@@ -249,7 +249,7 @@ not_within_with_witness low high seen is_top bound object c f witness within =
 
 -- ---- before any access, and the same sets told otherwise
 pub keeps_none : (k : ℕ) (low high : ℕ → ℕ) (is_top is_candidate : ℕ → Bool) → ((object : ℕ) → is_top object ≡ false)
-    → ((object : ℕ) → is_candidate object ≡ false) → KeepsLate k low high [] is_top is_candidate
+    → ((object : ℕ) → is_candidate object ≡ false) → KeepsCandidates k low high [] is_top is_candidate
 keeps_none k low high is_top is_candidate none_top none_candidate = record {
   first = record {
     sized = (let e : 0 ≡ min k 0 = omega arith in e);
@@ -277,7 +277,7 @@ least_same low is_top then bound same least = record {
 
 pub keeps_same : (k : ℕ) (low high : ℕ → ℕ) (seen : List ℕ) (is_top then is_candidate candidate_then : ℕ → Bool)
     → ((object : ℕ) → then object ≡ is_top object) → ((object : ℕ) → candidate_then object ≡ is_candidate object)
-    → KeepsLate k low high seen is_top is_candidate → KeepsLate k low high seen then candidate_then
+    → KeepsCandidates k low high seen is_top is_candidate → KeepsCandidates k low high seen then candidate_then
 keeps_same k low high seen is_top then is_candidate candidate_then same_top same_candidate keeps = record {
   first = first_same k low seen is_top then same_top keeps.first;
   apart = λ object t. let was = keeps.apart object (sym (same_candidate object) ∙ t) in (was.0, same_top object ∙ was.1);

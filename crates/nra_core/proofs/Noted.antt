@@ -17,7 +17,7 @@ use Rattle.indexed_heap.specs.Ranks.{rank_at}
 use Rattle.indexed_heap.specs.declared.slots.Entry.{Entry}
 use Rattle.indexed_heap.specs.Slots.{Slots, HasNoSlot, IsLeast, AreDistinctKeys}
 use Rattle.indexed_heap.proofs.Getting.{get_last, get_before, get_set_same, get_set_other}
-use Rattle.nra_core.specs.Late.{AreApart, AreNextBounds, KeepsLate, with_one, exchanged}
+use Rattle.nra_core.specs.Late.{AreApart, AreNextBounds, KeepsCandidates, with_one, exchanged}
 use Rattle.nra_core.proofs.Candidates.{NamesOutside, keeps_of_member, keeps_of_few, keeps_of_outside, keeps_of_known, keeps_of_exchange, keeps_same}
 use Rattle.nra_core.proofs.Members.{all_in}
 use Rattle.ranked_list.proofs.OptionLaws.{option_cases}
@@ -114,7 +114,7 @@ noted_member V k m A a first candidates slot place old bounds c late at is_place
     let size : length (seen_objects B) ≡ length seen = ap length grown in
     let entries_size : length entries ≡ length first.entries = length-set first.entries slot new in
     let member : is_first A first.entries o ≡ true = ap (at_place (has_place first.entries)) (place_at seen old.key o (seen_distinct A) at_place_o) ∙ has_from first.entries slot old at in
-    let keeps : KeepsLate k (low V m B) (high V m B) seen (is_first A first.entries) (is_candidate A candidates) = keeps_of_member k (low V m A) (high V m A) (low V m B) (high V m B) seen (is_first A first.entries) (is_candidate A candidates) o bounds late.keeps member in
+    let keeps : KeepsCandidates k (low V m B) (high V m B) seen (is_first A first.entries) (is_candidate A candidates) = keeps_of_member k (low V m A) (high V m A) (low V m B) (high V m B) seen (is_first A first.entries) (is_candidate A candidates) o bounds late.keeps member in
     let before : (s : ℕ) (entry : Entry) → s ≢ slot → slice_get entries s ≡ Some entry → slice_get first.entries s ≡ Some entry = λ s entry n e. sym (get_set_other first.entries slot s new n) ∙ e in
     record {
       asked = late.asked;
@@ -122,7 +122,7 @@ noted_member V k m A a first candidates slot place old bounds c late at is_place
       room = late.room;
       fits = (let f = late.fits in omega arith);
       full = entries_size ∙ late.full ∙ ap (λ n. min k n) (sym size);
-      keeps = subst (λ os. KeepsLate k (low V m B) (high V m B) os (is_first B entries) (is_candidate B candidates)) (sym grown)
+      keeps = subst (λ os. KeepsCandidates k (low V m B) (high V m B) os (is_first B entries) (is_candidate B candidates)) (sym grown)
           (keeps_same k (low V m B) (high V m B) seen (is_first A first.entries) (is_first B entries) (is_candidate A candidates) (is_candidate B candidates)
           (λ x. ap (λ os. of_places os (has_place entries) x) grown ∙ same_passes seen (has_place first.entries) (has_place entries) x (λ q. has_renewed first.entries slot old new q at refl))
           (λ x. ap (λ os. of_places os (has_high candidates) x) grown) keeps);
@@ -204,14 +204,14 @@ noted_few V k m A a first candidates place bounds c fits late few none there dis
     let one_more : length (seen ++ o ∷ []) ≡ length seen + 1 = length-append seen (o ∷ []) in
     let entries_size : length entries ≡ length first.entries + 1 = length-append first.entries (new ∷ []) in
     let place_within = slice_get_within (seen_objects B) place o there in
-    let keeps : KeepsLate k (low V m B) (high V m B) (seen ++ o ∷ []) (with_one (is_first A first.entries) o) (is_candidate A candidates) = keeps_of_few k (low V m A) (high V m A) (low V m B) (high V m B) seen (is_first A first.entries) (is_candidate A candidates) o bounds short late.keeps in
+    let keeps : KeepsCandidates k (low V m B) (high V m B) (seen ++ o ∷ []) (with_one (is_first A first.entries) o) (is_candidate A candidates) = keeps_of_few k (low V m A) (high V m A) (low V m B) (high V m B) seen (is_first A first.entries) (is_candidate A candidates) o bounds short late.keeps in
     record {
       asked = late.asked;
       most = late.most;
       room = late.room;
       fits = fits;
       full = (let e : length entries ≡ min k (length (seen_objects B)) = omega arith in e);
-      keeps = subst (λ os. KeepsLate k (low V m B) (high V m B) os (is_first B entries) (is_candidate B candidates)) (sym grown)
+      keeps = subst (λ os. KeepsCandidates k (low V m B) (high V m B) os (is_first B entries) (is_candidate B candidates)) (sym grown)
           (keeps_same k (low V m B) (high V m B) (seen ++ o ∷ []) (with_one (is_first A first.entries) o) (is_first B entries) (is_candidate A candidates) (is_candidate B candidates)
           (λ x. at_with (seen_objects B) (has_place first.entries) (has_place entries) place o x (seen_distinct B) there (λ q. has_added first.entries new q) ∙ ap (λ b. b || (o == x)) (first_now A a first.entries x either late.places))
           (λ x. candidates_now V k m A a first candidates x either late) keeps);
@@ -309,7 +309,7 @@ noted_outside V k m A a first candidates place slot bounds c fits late many none
       only = g.only;
       others = g.others;
     } in
-    let keeps : KeepsLate k (low V m B) (high V m B) (seen ++ g.more) (is_first A first.entries) (with_one (is_candidate A candidates) o) = keeps_of_outside k (low V m A) (high V m A) (low V m B) (high V m B) seen g.more (is_first A first.entries) (is_candidate A candidates) o bounds names late.keeps
+    let keeps : KeepsCandidates k (low V m B) (high V m B) (seen ++ g.more) (is_first A first.entries) (with_one (is_candidate A candidates) o) = keeps_of_outside k (low V m A) (high V m A) (low V m B) (high V m B) seen g.more (is_first A first.entries) (is_candidate A candidates) o bounds names late.keeps
     (λ inside t. let from = least_of_first V k m A first candidates slot late least inside t in omega arith) in
     record {
       asked = late.asked;
@@ -317,7 +317,7 @@ noted_outside V k m A a first candidates place slot bounds c fits late many none
       room = now_size ∙ late.room;
       fits = fits;
       full = (let e : length first.entries ≡ min k (length (seen_objects B)) = omega arith in e);
-      keeps = subst (λ os. KeepsLate k (low V m B) (high V m B) os (is_first B first.entries) (is_candidate B now)) (sym g.grown)
+      keeps = subst (λ os. KeepsCandidates k (low V m B) (high V m B) os (is_first B first.entries) (is_candidate B now)) (sym g.grown)
           (keeps_same k (low V m B) (high V m B) (seen ++ g.more) (is_first A first.entries) (is_first B first.entries) (with_one (is_candidate A candidates) o) (is_candidate B now)
           (λ x. first_now A a first.entries x either late.places)
           (λ x. at_with (seen_objects B) (has_high candidates) (has_high now) place o x (seen_distinct B) there (λ q. high_put candidates place (high V m B o) q room) ∙ ap (λ b. b || (o == x)) (candidates_now V k m A a first candidates x either late)) keeps);
@@ -381,7 +381,7 @@ noted_exchange V k m A a first candidates place slot left bounds c fits late man
       only = g.only;
       others = g.others;
     } in
-    let keeps : KeepsLate k (low V m B) (high V m B) (seen ++ g.more) (exchanged (is_first A first.entries) left o) (exchanged (is_candidate A candidates) o left) = keeps_of_exchange k (low V m A) (high V m A) (low V m B) (high V m B) seen g.more (is_first A first.entries) (is_candidate A candidates) o left bounds names late.keeps member
+    let keeps : KeepsCandidates k (low V m B) (high V m B) (seen ++ g.more) (exchanged (is_first A first.entries) left o) (exchanged (is_candidate A candidates) o left) = keeps_of_exchange k (low V m A) (high V m A) (low V m B) (high V m B) seen g.more (is_first A first.entries) (is_candidate A candidates) o left bounds names late.keeps member
     (λ inside t. let from = least_of_first V k m A first candidates slot late least inside t in omega arith) (omega arith) in
     record {
       asked = late.asked;
@@ -389,7 +389,7 @@ noted_exchange V k m A a first candidates place slot left bounds c fits late man
       room = now_size ∙ emptied_size ∙ late.room;
       fits = fits;
       full = (let e : length entries ≡ min k (length (seen_objects B)) = omega arith in e);
-      keeps = subst (λ os. KeepsLate k (low V m B) (high V m B) os (is_first B entries) (is_candidate B now)) (sym g.grown)
+      keeps = subst (λ os. KeepsCandidates k (low V m B) (high V m B) os (is_first B entries) (is_candidate B now)) (sym g.grown)
           (keeps_same k (low V m B) (high V m B) (seen ++ g.more) (exchanged (is_first A first.entries) left o) (is_first B entries) (exchanged (is_candidate A candidates) o left) (is_candidate B now)
           (λ x. at_exchanged (seen_objects B) (has_place first.entries) (has_place entries) old.key place left o x (seen_distinct B) left_there there (λ q. has_replaced first.entries slot old new q late.distinct least.there none)
           ∙ ap (λ b. (b && not (left == x)) || (o == x)) (first_now A a first.entries x either late.places))
@@ -453,7 +453,7 @@ noted_known V k m A a first candidates place slot bounds c fits late many none t
     let was : Contains seen o = slice_get_contains seen place o (before_at A a place o either before there) in
     let grown : seen_objects B ≡ seen = elim either [ inl old ↦ old.1 | inr new ↦ absurd (new.0 was) ] in
     let size : length (seen_objects B) ≡ length seen = ap length grown in
-    let keeps : KeepsLate k (low V m B) (high V m B) seen (is_first A first.entries) (is_candidate A candidates) = keeps_of_known k (low V m A) (high V m A) (low V m B) (high V m B) seen (is_first A first.entries) (is_candidate A candidates) o bounds enough was outside late.keeps
+    let keeps : KeepsCandidates k (low V m B) (high V m B) seen (is_first A first.entries) (is_candidate A candidates) = keeps_of_known k (low V m A) (high V m A) (low V m B) (high V m B) seen (is_first A first.entries) (is_candidate A candidates) o bounds enough was outside late.keeps
     (λ inside t. let from = least_of_first V k m A first candidates slot late least inside t in omega arith) in
     record {
       asked = late.asked;
@@ -461,7 +461,7 @@ noted_known V k m A a first candidates place slot bounds c fits late many none t
       room = late.room;
       fits = fits;
       full = late.full ∙ ap (λ n. min k n) (sym size);
-      keeps = subst (λ os. KeepsLate k (low V m B) (high V m B) os (is_first B first.entries) (is_candidate B candidates)) (sym grown)
+      keeps = subst (λ os. KeepsCandidates k (low V m B) (high V m B) os (is_first B first.entries) (is_candidate B candidates)) (sym grown)
           (keeps_same k (low V m B) (high V m B) seen (is_first A first.entries) (is_first B first.entries) (is_candidate A candidates) (is_candidate B candidates)
           (λ x. first_now A a first.entries x either late.places)
           (λ x. candidates_now V k m A a first candidates x either late) keeps);

@@ -40,7 +40,7 @@ pub record MayStop (k n threshold : ℕ) (low high : ℕ → ℕ) (seen : List �
   pub others : AreOthersWithin low high seen is_top bound
 
 -- each candidate is a seen object outside the first; an object outside both is given up: its high is no greater than the low of any of the first
-pub record KeepsLate (k : ℕ) (low high : ℕ → ℕ) (seen : List ℕ) (is_top is_candidate : ℕ → Bool) : Type 0 where
+pub record KeepsCandidates (k : ℕ) (low high : ℕ → ℕ) (seen : List ℕ) (is_top is_candidate : ℕ → Bool) : Type 0 where
   pub first : AreFirstByLow k low seen is_top
   pub apart : (object : ℕ) → is_candidate object ≡ true → Contains seen object × (is_top object ≡ false)
   pub given_up : (inside outside : ℕ) → is_top inside ≡ true → Contains seen outside → is_top outside ≡ false → is_candidate outside ≡ false

@@ -7,7 +7,7 @@ use Rattle.indexed_heap.specs.Slots.{Slots, IsLeast, AreDistinctKeys}
 use Rattle.topk_theory.specs.declared.access.Access.{Access}
 use Rattle.topk_theory.specs.Transcript.{object_of, seen_objects}
 use Rattle.topk_theory.specs.Bounds.{low, high, threshold}
-use Rattle.nra_core.specs.Late.{KeepsLate}
+use Rattle.nra_core.specs.Late.{KeepsCandidates}
 use Rattle.monotone_fn.specs.Tree.{Tree}
 use Rattle.monotone_fn.specs.Value.{value}
 use Rattle.access_log.specs.Log.{Log}
@@ -39,7 +39,7 @@ pub record IsLate (V : List ℕ → ℕ) (k m : ℕ) (A : List Access) (first : 
   pub room : length candidates ≡ first.room
   pub fits : length (seen_objects A) ≤ first.room
   pub full : length first.entries ≡ min k (length (seen_objects A))
-  pub keeps : KeepsLate k (low V m A) (high V m A) (seen_objects A) (is_first A first.entries) (is_candidate A candidates)
+  pub keeps : KeepsCandidates k (low V m A) (high V m A) (seen_objects A) (is_first A first.entries) (is_candidate A candidates)
   pub distinct : AreDistinctKeys first.entries
   pub places : AreSeen A first.entries
   pub lows : (slot object : ℕ) (entry : Entry) → slice_get first.entries slot ≡ Some entry → slice_get (seen_objects A) entry.key ≡ Some object

@@ -10,7 +10,7 @@ ghost use Rattle.topk_theory.specs.Transcript.{Agrees, object_of, named_objects,
 ghost use Rattle.topk_theory.specs.Bounds.{low, high, threshold};
 ghost use Rattle.topk_theory.specs.NoRandom.{is_quiet};
 ghost use Rattle.nra_core.specs.Quiet.{is_quiet_seen};
-ghost use Rattle.nra_core.specs.Late.{AreFirstByLow, IsLeastLow, AreOthersWithin, MayStop, KeepsLate, IsWitness, AreNextBounds, above_low, at_low};
+ghost use Rattle.nra_core.specs.Late.{AreFirstByLow, IsLeastLow, AreOthersWithin, MayStop, KeepsCandidates, IsWitness, AreNextBounds, above_low, at_low};
 
 /// On a table that agrees, the algorithm is quiet exactly where it may stop by any k seen objects with the greatest
 /// lows: the order among ties decides nothing.
@@ -53,7 +53,7 @@ pub fn what_is_given_up_stays_given_up()
 /// Where no candidate has a high above the bound, no object outside the first stands against the stop.
 pub fn a_walk_without_candidates_ends_within()
     ensures { (k : ℕ) (low high : ℕ → ℕ) (seen : List ℕ) (is_top is_candidate : ℕ → Bool) (bound : ℕ)
-        → KeepsLate k low high seen is_top is_candidate → IsLeastLow low is_top bound
+        → KeepsCandidates k low high seen is_top is_candidate → IsLeastLow low is_top bound
         → ((object : ℕ) → is_candidate object ≡ true → high object ≤ bound)
         → AreOthersWithin low high seen is_top bound }
 {}
