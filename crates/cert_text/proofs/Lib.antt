@@ -1,4 +1,5 @@
 pub mod WritingLaws
+pub mod NumberPlaces
 pub mod FigureLaws
 -- What each line says, what lines spell, and that what is written is read back.
 pub mod PartLaws

@@ -31,3 +31,10 @@ refused_parts first line name fields =
     ∙ append_assoc first (further (line ∷ name ∷ fields)) (10 ∷ [])
     ∙ ap (λ t. first ++ t) (append_assoc (32 ∷ line) (further (name ∷ fields)) (10 ∷ []))
     ∙ ap (λ t. first ++ ((32 ∷ line) ++ t)) (append_assoc (32 ∷ name) (further fields) (10 ∷ []))
+
+-- the parts of the line of an access
+pub access_parts : (kind : ℕ) (name object grade : List ℕ)
+    → spaced ((kind ∷ []) ∷ name ∷ object ∷ grade ∷ []) ++ 10 ∷ [] ≡ (kind ∷ 32 ∷ []) ++ (name ++ (32 ∷ object ++ (32 ∷ grade ++ 10 ∷ [])))
+access_parts kind name object grade =
+    ap (λ t. kind ∷ 32 ∷ t)
+    (append_assoc name (32 ∷ (object ++ 32 ∷ grade)) (10 ∷ []) ∙ ap (λ t. name ++ 32 ∷ t) (append_assoc object (32 ∷ grade) (10 ∷ [])))

@@ -1,10 +1,14 @@
 //! Certificates.
 
-use super::accesses::Accesses;
 use super::versions::Versions;
 use access_log::Items;
 use guarantee::Guarantee;
+use listed::Listed;
 use query_text::Query;
+use topk_theory::Access;
+
+/// Accesses in order.
+pub type Accesses = Listed<Access>;
 
 /// An answer to a query, with the accesses that it was found by.
 #[derive(Drop)]

@@ -16,7 +16,6 @@
 //! A refused query line is one line: `refused LINE`, the name of the refusal and its fields.
 #![tactic(auto)]
 
-mod accesses;
 mod certificate;
 mod fault;
 mod fields;
@@ -25,12 +24,12 @@ mod parts;
 mod reader;
 mod reading;
 mod refusal;
+mod rows;
 mod versions;
 mod words;
 mod writing;
 
-pub use accesses::Accesses;
-pub use certificate::Certificate;
+pub use certificate::{Accesses, Certificate};
 pub use fault::CertFault;
 pub use outcome::{Outcome, put_outcome, write_outcome};
 pub use reading::read_certificate;

@@ -9,8 +9,7 @@ ghost use Rattle.cert_text.specs.Outcome.{outcome_text, certificate_of, IsCertif
 ghost use Rattle.cert_text.specs.Judging.{Finds};
 ghost use Rattle.cert_text.specs.Reading.{Spells, IsReadAs, IsCause};
 
-use super::accesses::Accesses;
-use super::certificate::Certificate;
+use super::certificate::{Accesses, Certificate};
 use super::fault::CertFault;
 use super::parts::number_of;
 use super::reader::{Counted, Ending, Results, read_queried};
@@ -41,7 +40,7 @@ fn read_lines(alloc: Global, bytes: &[u8]) -> Result<Certificate, CertFault>
         figures,
         accesses,
     } = ending;
-    if items.len() > u32::MAX as usize {
+    if items.len() > u32::MAX as usize || accesses.len() > u32::MAX as usize {
         query.let_go();
         drop(versions);
         drop(items);

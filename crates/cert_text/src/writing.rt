@@ -11,6 +11,7 @@ ghost use Rattle.guarantee.specs.Guarantee.{factor_of};
 ghost use Rattle.cert_text.specs.Certificate.{spaced, version_line, version_lines, answer_line, guarantee_lines, access_line, certificate_lines};
 ghost use Rattle.cert_text.specs.Outcome.{HasCost, factor_for, certificate_of, figures_line};
 
+use super::rows::put_row;
 use super::words::{Word, put_line};
 use access_log::{Access, Items, Transcript};
 use guarantee::{Guarantee, guarantee};
@@ -120,16 +121,13 @@ fn put_figures<P: Put>(out: &mut P, query: &Query, transcript: &Transcript)
 }
 
 /// Puts the line of an access of this kind behind the bytes that wait.
-fn put_kind<P: Put>(out: &mut P, kind: &[u8], name: &[u8], object: u32, grade: u32)
+fn put_kind<P: Put>(out: &mut P, kind: u8, name: &[u8], object: u32, grade: u32)
     ensures { Puts (P.at out.old) (P.at out.new)
-        (spaced (kind.now ∷ name.now ∷ decimal object ∷ decimal grade ∷ []) ++ 10 ∷ []) }
+        (spaced ((kind ∷ []) ∷ name.now ∷ decimal object ∷ decimal grade ∷ []) ++ 10 ∷ []) }
 {
-    let object = Word::Number(u64::from(object));
-    put_line(
-        out,
-        kind,
-        &[Word::Text(name), object, Word::Number(u64::from(grade))],
-    );
+    out.put(&[kind, b' ']);
+    out.put(name);
+    put_row(out, object, grade);
 }
 
 /// Puts the line of an access behind the bytes that wait.
@@ -142,12 +140,12 @@ fn put_access<P: Put>(out: &mut P, names: &Names, access: Access)
             list,
             object,
             grade,
-        } => put_kind(out, b"s", name_of(names, list), object, grade),
+        } => put_kind(out, b's', name_of(names, list), object, grade),
         Access::Random {
             list,
             object,
             grade,
-        } => put_kind(out, b"r", name_of(names, list), object, grade),
+        } => put_kind(out, b'r', name_of(names, list), object, grade),
     }
 }
 
