@@ -7,7 +7,7 @@ use Rattle.turn_lock.specs.declared.facts.Facts.{Facts}
 use Rattle.turn_lock.specs.declared.facts.Tally.{Tally}
 use Rattle.turn_lock.specs.declared.known.Known.{Known}
 use Rattle.turn_lock.specs.Facts.{IsFrontOf}
-use Rattle.turn_lock.proofs.Growth.{begins_on}
+use Rattle.turn_lock.proofs.Growth.{begins_same, begins_on}
 use Rattle.source_state.specs.declared.entry.LogEntry.{LogEntry}
 use Rattle.source_api.specs.declared.source.FailKind.{FailKind}
 use Rattle.source_state.proofs.Lists.{none_not_some}
@@ -21,23 +21,26 @@ use Rattle.source_state.specs.Looking.{waits_for, newer, told}
 use Rattle.source_pool.specs.declared.hold.Hold.{Hold}
 use Rattle.source_pool.specs.Passes.{hold_at, OthersStay}
 use Rattle.source_pool.specs.Looks.{Answers as LookAnswers}
-use Rattle.source_pool.specs.Looks.{IsTurn, IsFail, HasCalled, BeginsToWait}
+use Rattle.source_pool.specs.Looks.{IsLook, IsTurn, IsFail, HasCalled, BeginsToWait}
 use Rattle.query_run.specs.Failing.{CallsFor, HasCalledFor, FailCame, RefusedBy}
 
 -- the pass gave one more value
 pub gave_one : (n : Need) (now after : Hold) (answer : Look) → (turn : IsTurn n now after answer) → after.pass.1.gave ≡ now.pass.1.gave ++ facts_of turn.left ∷ []
 gave_one n now after answer turn = ap (λ (known : Known LogEntry). known.gave) turn.gave
 
+gave_more : (n : Need) (now after : Hold) (answer : Look) → IsLook n now after answer → IsFrontOf now.pass.1.gave after.pass.1.gave
+gave_more n now after answer (inl glance) = subst (λ (hold : Hold). IsFrontOf now.pass.1.gave hold.pass.1.gave) (sym glance.same) (begins_same now.pass.1.gave)
+gave_more n now after answer (inr turn) = record { rest = facts_of turn.left ∷ []; goes_on = gave_one n now after answer turn }
+
 -- at each source the pass gave what it had given, or more
 pub all_turns : (n : Need) (before now after : List Hold) (source other : ℕ) (answer : Look) → OthersStay source now after
-    → IsTurn n (hold_at now source) (hold_at after source) answer
+    → IsLook n (hold_at now source) (hold_at after source) answer
     → IsFrontOf (hold_at before other).pass.1.gave (hold_at now other).pass.1.gave
     → IsFrontOf (hold_at before other).pass.1.gave (hold_at after other).pass.1.gave
-all_turns n before now after source other answer others turn h = elim (eqb_tells other source) [
+all_turns n before now after source other answer others looks h = elim (eqb_tells other source) [
   | inl t ↦
-      let one : IsFrontOf (hold_at now source).pass.1.gave (hold_at after source).pass.1.gave
-      = record { rest = facts_of turn.left ∷ []; goes_on = gave_one n (hold_at now source) (hold_at after source) answer turn } in
-      begins_on h (subst (λ s. IsFrontOf (hold_at now s).pass.1.gave (hold_at after s).pass.1.gave) (sym t.1) one)
+      begins_on h (subst (λ s. IsFrontOf (hold_at now s).pass.1.gave (hold_at after s).pass.1.gave) (sym t.1)
+      (gave_more n (hold_at now source) (hold_at after source) answer looks))
   | inr f ↦ subst (λ (hold : Hold). IsFrontOf (hold_at before other).pass.1.gave hold.pass.1.gave) (sym (others.stay other f.1)) h
 ]
 

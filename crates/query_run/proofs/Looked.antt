@@ -21,7 +21,7 @@ use Rattle.source_state.specs.State.{State, IsSound, state_at}
 use Rattle.source_state.specs.Looking.{decided, is_full, Ends, Refuses}
 use Rattle.source_pool.specs.declared.hold.Hold.{Hold}
 use Rattle.source_pool.specs.Passes.{hold_at, OthersStay}
-use Rattle.source_pool.specs.Looks.{IsTurn}
+use Rattle.source_pool.specs.Looks.{IsLook, IsTurn}
 use Rattle.query_core.specs.Machines.{state_of}
 use Rattle.query_run.specs.declared.inquiry.Inquiry.{Inquiry}
 use Rattle.query_run.specs.Inquiries.{told_to}
@@ -63,6 +63,15 @@ refuses_sight n s t waiting left (why.AsksFull kept) h = record {
 }
 refuses_sight n s t waiting left (why.Call what) h = record { undecided = decided_sight s n ∙ h.undecided; tells = h.tells; ends = ends_sight s t waiting left h.ends }
 
+-- a look that is not yet answered, or that refuses, took a turn
+pub turn_of_wait : (n : Need) (before after : Hold) → IsLook n before after look.NotYet → IsTurn n before after look.NotYet
+turn_of_wait n before after (inl glance) = absurd glance.held
+turn_of_wait n before after (inr turn) = turn
+
+pub turn_of_fault : (n : Need) (before after : Hold) (fault : LookFault) → IsLook n before after (look.Fault fault) → IsTurn n before after (look.Fault fault)
+turn_of_fault n before after fault (inl glance) = absurd glance.held
+turn_of_fault n before after fault (inr turn) = turn
+
 -- after a look that left the state as it was, the pass sees what was found, and that is sound
 pub record Sees (n : Need) (before after : Hold) (t : State) : Type 0 where
   pub is : state_seen after.pass.1 ≡ sight_of t
@@ -85,15 +94,19 @@ pub record IsDecidedBy (n : Need) (s : State) (answer : Look) : Type 0 where
   pub sound : IsSound s
   pub decides : decided s n ≡ Some answer
 
-pub row_seen : (n : Need) (before after : Hold) (row : Row) → IsTurn n before after (look.Row row)
+pub row_seen : (n : Need) (before after : Hold) (row : Row) → IsLook n before after (look.Row row)
     → IsDecidedBy n (state_seen after.pass.1) (look.Row row)
-row_seen n before after row turn =
+row_seen n before after row (inl glance) =
+    subst (λ (hold : Hold). IsDecidedBy n (state_seen hold.pass.1) (look.Row row)) (sym glance.same) (record { sound = glance.sound; decides = glance.decides })
+row_seen n before after row (inr turn) =
     let s = sees n before after (look.Row row) turn turn.looks.ends.same in
     record { sound = s.sound; decides = subst (λ t. decided t n ≡ Some (look.Row row)) (sym s.is) (decided_sight turn.found n ∙ turn.looks.decides) }
 
-pub grade_seen : (n : Need) (before after : Hold) (grade : ℕ) → IsTurn n before after (look.Grade grade)
+pub grade_seen : (n : Need) (before after : Hold) (grade : ℕ) → IsLook n before after (look.Grade grade)
     → IsDecidedBy n (state_seen after.pass.1) (look.Grade grade)
-grade_seen n before after grade turn =
+grade_seen n before after grade (inl glance) =
+    subst (λ (hold : Hold). IsDecidedBy n (state_seen hold.pass.1) (look.Grade grade)) (sym glance.same) (record { sound = glance.sound; decides = glance.decides })
+grade_seen n before after grade (inr turn) =
     let s = sees n before after (look.Grade grade) turn turn.looks.ends.same in
     record { sound = s.sound; decides = subst (λ t. decided t n ≡ Some (look.Grade grade)) (sym s.is) (decided_sight turn.found n ∙ turn.looks.decides) }
 

@@ -23,7 +23,7 @@ use Rattle.source_state.proofs.Lists.{none_not_some, eqb_same}
 use Rattle.source_pool.specs.declared.hold.Hold.{Hold}
 use Rattle.source_pool.specs.Passes.{hold_at, OthersStay}
 use Rattle.source_pool.specs.Looks.{Answers as LookAnswers}
-use Rattle.source_pool.specs.Looks.{KeepsMarks, shown_fault, Ends, BeginsToWait, IsTurn}
+use Rattle.source_pool.specs.Looks.{KeepsMarks, shown_fault, Ends, BeginsToWait, IsLook, IsTurn}
 use Rattle.query_core.specs.Machines.{state_of, MakesItsRun}
 use Rattle.query_run.specs.declared.ended.Refusal.TheVariants as refusal
 use Rattle.query_run.specs.declared.inquiry.Inquiry.{Inquiry}
@@ -88,15 +88,15 @@ all_shown before now after source other others same h = elim (eqb_tells other so
 
 -- a query that was given what it needs
 pub open_given : (before now after : List Hold) (q r : Inquiry) (answer : Look) → IsOnItsWay before now q
-    → IsTurn (needed q) (hold_at now (source_needed q)) (hold_at after (source_needed q)) answer → OthersStay (source_needed q) now after
+    → IsLook (needed q) (hold_at now (source_needed q)) (hold_at after (source_needed q)) answer → OthersStay (source_needed q) now after
     → Over (hold_at now (source_needed q)) (hold_at after (source_needed q))
     → (hold_at after (source_needed q)).shown ≡ (hold_at now (source_needed q)).shown → WasGiven q r → IsOnItsWay before after r
-open_given before now after q r answer h turn others over shown given = record {
+open_given before now after q r answer h looks others over shown given = record {
   waits = λ source n e. absurd (none_not_some (sym ((all_rest before now after q h others over).rests source) ∙ e));
   shown = λ source. all_shown before now after (source_needed q) source others shown (h.shown source);
   wants = λ source. wants_given q r source (hold_at before source) (hold_at now source) (hold_at after source) given
       (all_marks now after (source_needed q) source others over.marks) (h.wants source);
-  turns = λ source. all_turns (needed q) before now after (source_needed q) source answer others turn (h.turns source);
+  turns = λ source. all_turns (needed q) before now after (source_needed q) source answer others looks (h.turns source);
 }
 
 -- a query that waits, for what it needs
@@ -171,7 +171,7 @@ open_waits before now after q r place h turn others shown sources same going mos
         wants_still q r source (hold_at before source) (hold_at now source) (hold_at after source) sources same (marks_same (hold_at now source) (hold_at after source) stays)
         (ap (λ (hold : Hold). hold.waiting) stays) (h.wants source)
   ];
-  turns = λ source. all_turns (needed q) before now after (source_needed q) source look.NotYet others turn (h.turns source);
+  turns = λ source. all_turns (needed q) before now after (source_needed q) source look.NotYet others (inr turn) (h.turns source);
 }
   where
     here : (n : Need) → (hold_at after (source_needed q)).waiting.need ≡ Some n

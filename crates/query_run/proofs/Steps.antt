@@ -16,7 +16,7 @@ use Rattle.source_state.specs.State.{State, IsSound, state_at}
 use Rattle.source_state.proofs.Lists.{none_not_some}
 use Rattle.source_pool.specs.declared.hold.Hold.{Hold}
 use Rattle.source_pool.specs.Passes.{hold_at, OthersStay}
-use Rattle.source_pool.specs.Looks.{MayLookFor, shown_by, IsTurn, IsWithin, TookTurn, Waits}
+use Rattle.source_pool.specs.Looks.{MayLookFor, shown_by, IsLook, IsWithin, KnowsOn, Waits}
 use Rattle.query_core.specs.Methods.{run_with}
 use Rattle.query_core.specs.Machines.{method_of, state_of, MakesItsRun}
 use Rattle.query_run.specs.declared.inquiry.Inquiry.{Inquiry}
@@ -84,8 +84,8 @@ source_read holds q n list source place is at read =
 
 -- a look at a source, by what its calls promise
 pub sees_on : (source : ℕ) (before after : List Hold) → length after ≡ length before → OthersStay source before after
-    → TookTurn (hold_at before source).pass.1 (hold_at after source).pass.1 → SeesOn source before after
-sees_on source before after long others took = record { long = long; follows = took.follows; name = took.name; others = others }
+    → KnowsOn (hold_at before source).pass.1 (hold_at after source).pass.1 → SeesOn source before after
+sees_on source before after long others knows = record { long = long; follows = knows.follows; name = knows.name; others = others }
 
 -- what the query waits for itself stays nothing
 over_none : (w : Waiting) → w.need ≡ None → w ≡ record w { need = None }
@@ -141,34 +141,34 @@ fresh before after q h unrefused place on sound =
 
 -- what a look answers may be fed
 pub look_may : (before after : List Hold) (q : Inquiry) (answer : Look) → IsReading before q → is_ended q ≡ false → SeesOn (source_needed q) before after
-    → IsTurn (needed q) (hold_at before (source_needed q)) (hold_at after (source_needed q)) answer → MayFeed (state_of q.machine) answer
-look_may before after q (look.Row row) h going on turn =
+    → IsLook (needed q) (hold_at before (source_needed q)) (hold_at after (source_needed q)) answer → MayFeed (state_of q.machine) answer
+look_may before after q (look.Row row) h going on looks =
     let s = source_needed q in
-    let by = row_seen (needed q) (hold_at before s) (hold_at after s) row turn in
+    let by = row_seen (needed q) (hold_at before s) (hold_at after s) row looks in
     let place = placed_at before q h going in
     let f = fresh before after q h (open_parts q going).0 place on by.sound in
     let states = slice_set h.states s (state_seen (hold_at after s).pass.1) in
     may_feed states q (state_at states s) q.waiting (look.Row row) f.feeds.sound f.served
     (decided_looks h.states s (needed q) (state_seen (hold_at after s).pass.1) q.waiting q.waiting (look.Row row) (there_too before q h place) by h.rests refl)
-look_may before after q (look.Grade grade) h going on turn =
+look_may before after q (look.Grade grade) h going on looks =
     let s = source_needed q in
-    let by = grade_seen (needed q) (hold_at before s) (hold_at after s) grade turn in
+    let by = grade_seen (needed q) (hold_at before s) (hold_at after s) grade looks in
     let place = placed_at before q h going in
     let f = fresh before after q h (open_parts q going).0 place on by.sound in
     let states = slice_set h.states s (state_seen (hold_at after s).pass.1) in
     may_feed states q (state_at states s) q.waiting (look.Grade grade) f.feeds.sound f.served
     (decided_looks h.states s (needed q) (state_seen (hold_at after s).pass.1) q.waiting q.waiting (look.Grade grade) (there_too before q h place) by h.rests refl)
-look_may before after q look.NotYet h going on turn = tt
-look_may before after q (look.Fault fault) h going on turn = tt
+look_may before after q look.NotYet h going on looks = tt
+look_may before after q (look.Fault fault) h going on looks = tt
 
 -- a look for a need at a source, by what the pool promises of it
 pub record LookedAt (n : Need) (source : ℕ) (before after : List Hold) (answer : Look) : Type 0 where
   pub others : OthersStay source before after
-  pub turn : IsTurn n (hold_at before source) (hold_at after source) answer
+  pub look : IsLook n (hold_at before source) (hold_at after source) answer
   pub waits : Waits n (hold_at before source) (hold_at after source) answer
   pub said : Rattle.source_pool.specs.Looks.Answers n (hold_at before source) (hold_at after source) answer
   pub shown : (hold_at after source).shown ≡ shown_by answer (hold_at before source).shown
-  pub took : TookTurn (hold_at before source).pass.1 (hold_at after source).pass.1
+  pub knows : KnowsOn (hold_at before source).pass.1 (hold_at after source).pass.1
   pub within : IsWithin (hold_at before source) → IsWithin (hold_at after source)
 
 -- it is the look for what the query needs
@@ -181,18 +181,18 @@ at_need before after q n list source answer h going is at read looked =
 
 pub looked_may : (before after : List Hold) (q : Inquiry) (answer : Look) → IsReading before q → is_ended q ≡ false → length after ≡ length before
     → LookedAt (needed q) (source_needed q) before after answer → MayFeed (state_of q.machine) answer
-looked_may before after q answer h going long looked = look_may before after q answer h going (sees_on (source_needed q) before after long looked.others looked.took) looked.turn
+looked_may before after q answer h going long looked = look_may before after q answer h going (sees_on (source_needed q) before after long looked.others looked.knows) looked.look
 
 pub looks_once : (before after : List Hold) (q r : Inquiry) (answer : Look) → LookedAt (needed q) (source_needed q) before after answer → Answers q r answer
     → MakesItsRun r.machine → method_of r.machine ≡ method_of q.machine → r.sources.items ≡ q.sources.items → r.waiting ≡ q.waiting
     → LooksOnce before after q r
 looks_once before after q r answer looked answers run same sources waiting = record {
   answer = answer;
-  turn = looked.turn;
+  look = looked.look;
   waits = looked.waits;
   said = looked.said;
   shown = looked.shown;
-  took = looked.took;
+  knows = looked.knows;
   within = looked.within;
   others = looked.others;
   sources = sources;

@@ -20,7 +20,7 @@ use Rattle.source_state.specs.Drawing.{told_by}
 use Rattle.source_state.proofs.Lists.{none_not_some}
 use Rattle.source_pool.specs.declared.hold.Hold.{Hold}
 use Rattle.source_pool.specs.Passes.{hold_at}
-use Rattle.source_pool.specs.Looks.{IsWithin, TookTurn}
+use Rattle.source_pool.specs.Looks.{IsWithin, KnowsOn}
 use Rattle.query_core.specs.declared.ready.Ready.{Ready}
 use Rattle.query_core.specs.Driving.{Continues, IsFedFrom}
 use Rattle.query_core.specs.Machines.{state_of}
@@ -46,7 +46,7 @@ use Rattle.query_run.specs.Ran.{Ran, RanSome}
 use Rattle.query_run.specs.Looking.{FeedsFrom, IsReading, LooksOnce, IsOnItsWay, with_waiting, HasStopped, Stands, HasLooked, wants_memory}
 use Rattle.query_run.proofs.SeenLaws.{state_is}
 use Rattle.query_run.proofs.AskingLaws.{row_meets, grade_meets}
-use Rattle.query_run.proofs.Looked.{row_seen, grade_seen, fault_seen, SeesOn, name_on, feeds_still}
+use Rattle.query_run.proofs.Looked.{turn_of_wait, turn_of_fault, row_seen, grade_seen, fault_seen, SeesOn, name_on, feeds_still}
 use Rattle.query_run.proofs.Steps.{placed_at, sees_on, fresh, there_too, decided_looks}
 use Rattle.query_run.proofs.Stands.{over_of, open_given, open_waits, core_stops, fault_stops, done_stops}
 
@@ -93,7 +93,7 @@ row_stands : (before now after : List Hold) (q r : Inquiry) (row : Row) (states 
     → FeedsFrom after r states → Went states q r → r.refusal ≡ refused → RowTaken row q r refused → Stands before after r refused
 row_stands before now after q r row states None h reading going on l is seen feeds w e taken =
     open_given before now after q r (look.Row row) h
-    (subst (Rattle.source_pool.specs.Looks.IsTurn (needed q) (hold_at now (source_needed q)) (hold_at after (source_needed q))) is l.turn) l.others
+    (subst (Rattle.source_pool.specs.Looks.IsLook (needed q) (hold_at now (source_needed q)) (hold_at after (source_needed q))) is l.look) l.others
     (over_of _ _ (subst (Rattle.source_pool.specs.Looks.Waits (needed q) (hold_at now (source_needed q)) (hold_at after (source_needed q))) is l.waits))
     (l.shown ∙ ap (λ a. Rattle.source_pool.specs.Looks.shown_by a (hold_at now (source_needed q)).shown) is)
     (record { sources = l.sources; access = Rattle.machine_base.specs.Machine.row_access (needed q) row; accesses = taken.1.log.accesses; meets = row_meets (needed q) row going })
@@ -124,8 +124,8 @@ step_row before now after q r row h reading ending on l is =
     let s = source_needed q in
     let parts = open_parts q ending in
     let place = placed_at now q reading ending in
-    let turn = subst (Rattle.source_pool.specs.Looks.IsTurn (needed q) (hold_at now s) (hold_at after s)) is l.turn in
-    let by = row_seen (needed q) (hold_at now s) (hold_at after s) row turn in
+    let looks = subst (Rattle.source_pool.specs.Looks.IsLook (needed q) (hold_at now s) (hold_at after s)) is l.look in
+    let by = row_seen (needed q) (hold_at now s) (hold_at after s) row looks in
     let states = slice_set reading.states s (state_seen (hold_at after s).pass.1) in
     let f = fresh now after q reading parts.0 place on by.sound in
     let answers = subst (Rattle.query_run.specs.Turns.Answers q r) is l.answers in
@@ -146,8 +146,8 @@ step_grade before now after q r grade h reading ending on l is =
     let s = source_needed q in
     let parts = open_parts q ending in
     let place = placed_at now q reading ending in
-    let turn = subst (Rattle.source_pool.specs.Looks.IsTurn (needed q) (hold_at now s) (hold_at after s)) is l.turn in
-    let by = grade_seen (needed q) (hold_at now s) (hold_at after s) grade turn in
+    let looks = subst (Rattle.source_pool.specs.Looks.IsLook (needed q) (hold_at now s) (hold_at after s)) is l.look in
+    let by = grade_seen (needed q) (hold_at now s) (hold_at after s) grade looks in
     let states = slice_set reading.states s (state_seen (hold_at after s).pass.1) in
     let f = fresh now after q reading parts.0 place on by.sound in
     let answers = subst (Rattle.query_run.specs.Turns.Answers q r) is l.answers in
@@ -158,7 +158,7 @@ step_grade before now after q r grade h reading ending on l is =
       states = states;
       feeds = feeds_on after q r states f.feeds l.sources w.goes w.fed;
       stands = subst (Stands before after r) (sym answers.0)
-          (open_given before now after q r (look.Grade grade) h turn l.others
+          (open_given before now after q r (look.Grade grade) h looks l.others
           (over_of _ _ (subst (Rattle.source_pool.specs.Looks.Waits (needed q) (hold_at now s) (hold_at after s)) is l.waits))
           (l.shown ∙ ap (λ a. Rattle.source_pool.specs.Looks.shown_by a (hold_at now s).shown) is)
           (record { sources = l.sources; access = Rattle.machine_base.specs.Machine.grade_access (needed q) grade; accesses = answers.1.log.accesses; meets = grade_meets (needed q) grade parts.1 }));
@@ -185,7 +185,7 @@ step_waits sources before now after q r advances h reading ending on l is =
       states = reading.states;
       feeds = feeds_on after q r reading.states feeds l.sources goes (subst (IsFedFrom (told_to reading.states q)) (sym same) reading.feeds.fed);
       stands = subst (Stands before after r) (sym answers.0)
-          (open_waits before now after q r place h (subst (Rattle.source_pool.specs.Looks.IsTurn (needed q) (hold_at now s) (hold_at after s)) is l.turn) l.others
+          (open_waits before now after q r place h (turn_of_wait (needed q) (hold_at now s) (hold_at after s) (subst (Rattle.source_pool.specs.Looks.IsLook (needed q) (hold_at now s) (hold_at after s)) is l.look)) l.others
           (l.shown ∙ ap (λ a. Rattle.source_pool.specs.Looks.shown_by a (hold_at now s).shown) is)
           l.sources same parts.1 (tally_more sources before now after q advances on)
           (subst (Rattle.source_pool.specs.Looks.Waits (needed q) (hold_at now s) (hold_at after s)) is l.waits));
@@ -200,7 +200,7 @@ step_fault before now after q r fault h reading ending on l is =
     let answers = subst (Rattle.query_run.specs.Turns.Answers q r) is l.answers in
     let same : state_of r.machine ≡ state_of q.machine = ap state_of answers.1 in
     let goes = same_goes q r same in
-    let turn = subst (Rattle.source_pool.specs.Looks.IsTurn (needed q) (hold_at now s) (hold_at after s)) is l.turn in
+    let turn = turn_of_fault (needed q) (hold_at now s) (hold_at after s) fault (subst (Rattle.source_pool.specs.Looks.IsLook (needed q) (hold_at now s) (hold_at after s)) is l.look) in
     let feeds = feeds_on after q r reading.states (feeds_still s now after q reading.states on reading.feeds) l.sources goes (subst (IsFedFrom (told_to reading.states q)) (sym same) reading.feeds.fed) in
     record {
       goes = goes;
@@ -249,8 +249,8 @@ knows_same hold = record {
 pub advances_same : (sources : List ℕ) (holds : List Hold) → Advances sources holds holds
 advances_same sources holds = record { size = refl; knows = λ source. knows_same (hold_at holds source); others = λ source absent. refl }
 
-took_knows : (now after : Hold) → TookTurn now.pass.1 after.pass.1 → (IsWithin now → IsWithin after) → KnowsMore now after
-took_knows now after took within = record { follows = took.follows; name = took.name; parts = took.parts; writer = took.writer; within = within }
+hold_knows : (now after : Hold) → KnowsOn now.pass.1 after.pass.1 → (IsWithin now → IsWithin after) → KnowsMore now after
+hold_knows now after knows within = record { follows = knows.follows; name = knows.name; parts = knows.parts; writer = knows.writer; within = within }
 
 advances_on : (sources : List ℕ) (before now after : List Hold) (q r : Inquiry) → Contains sources (source_needed q) → length after ≡ length now
     → LooksOnce now after q r → Advances sources before now → Advances sources before after
@@ -258,7 +258,7 @@ advances_on sources before now after q r among long l h = record {
   size = long ∙ h.size;
   knows = λ source. elim (eqb_tells source (source_needed q)) [
     | inl t ↦ subst (λ s. KnowsMore (hold_at before s) (hold_at after s)) (sym t.1)
-        (knows_more _ _ _ (h.knows (source_needed q)) (took_knows (hold_at now (source_needed q)) (hold_at after (source_needed q)) l.took l.within))
+        (knows_more _ _ _ (h.knows (source_needed q)) (hold_knows (hold_at now (source_needed q)) (hold_at after (source_needed q)) l.knows l.within))
     | inr f ↦ subst (λ (hold : Hold). KnowsMore (hold_at before source) hold) (sym (l.others.stay source f.1)) (h.knows source)
   ];
   others = λ source absent. l.others.stay source (λ e. absent (subst (Contains sources) (sym e) among)) ∙ h.others source absent;
@@ -271,7 +271,7 @@ looked_on before now after first q r long h ending l =
     let parts = open_parts q ending in
     let reading = h.reading in
     let place = placed_at now q reading ending in
-    let on = sees_on (source_needed q) now after long l.others l.took in
+    let on = sees_on (source_needed q) now after long l.others l.knows in
     let stands : IsOnItsWay before now q = subst (Stands before now q) parts.0 h.stands in
     let step = step_by first.sources.items before now after q r l.answer h.advances stands reading ending on l refl in
     let among : Contains first.sources.items (source_needed q) = subst (λ xs. Contains xs (source_needed q)) h.sources (contains_at q.sources.items (list_needed (needed q)) 0 place.listed) in

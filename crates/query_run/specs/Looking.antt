@@ -11,7 +11,7 @@ use Rattle.source_state.specs.State.{State, IsSound, state_at}
 use Rattle.source_pool.specs.declared.hold.Hold.{Hold}
 use Rattle.source_pool.specs.Passes.{hold_at, OthersStay}
 use Rattle.source_pool.specs.Looks.{Answers as LookAnswers}
-use Rattle.source_pool.specs.Looks.{shown_by, IsTurn, IsWithin, TookTurn, Waits}
+use Rattle.source_pool.specs.Looks.{shown_by, IsLook, IsWithin, KnowsOn, Waits}
 use Rattle.query_core.specs.Driving.{Continues, IsFedFrom}
 use Rattle.query_core.specs.Machines.{method_of, state_of, MakesItsRun}
 use Rattle.query_run.specs.declared.ended.Refusal.{Refusal}
@@ -43,14 +43,14 @@ pub record IsReading (holds : List Hold) (q : Inquiry) : Type 0 where
   pub states : List State
   pub feeds : FeedsFrom holds q states
 
--- one look at the source of a query's need, and what the query makes of the answer
+-- one look for a query's need at its source, by what the pass remembers or in a turn, and what the query makes of the answer
 pub record LooksOnce (before after : List Hold) (q r : Inquiry) : Type 0 where
   pub answer : Look
-  pub turn : IsTurn (needed q) (hold_at before (source_needed q)) (hold_at after (source_needed q)) answer
+  pub look : IsLook (needed q) (hold_at before (source_needed q)) (hold_at after (source_needed q)) answer
   pub waits : Waits (needed q) (hold_at before (source_needed q)) (hold_at after (source_needed q)) answer
   pub said : LookAnswers (needed q) (hold_at before (source_needed q)) (hold_at after (source_needed q)) answer
   pub shown : (hold_at after (source_needed q)).shown ≡ shown_by answer (hold_at before (source_needed q)).shown
-  pub took : TookTurn (hold_at before (source_needed q)).pass.1 (hold_at after (source_needed q)).pass.1
+  pub knows : KnowsOn (hold_at before (source_needed q)).pass.1 (hold_at after (source_needed q)).pass.1
   pub within : IsWithin (hold_at before (source_needed q)) → IsWithin (hold_at after (source_needed q))
   pub others : OthersStay (source_needed q) before after
   pub sources : r.sources.items ≡ q.sources.items

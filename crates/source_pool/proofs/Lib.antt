@@ -1,6 +1,8 @@
 pub mod SaidLaws
 pub mod TurnLaws
 pub mod SaidMeans
+pub mod WindowLaws
+pub mod RememberLaws
 mod Fronts
 mod OpenLaws
 mod Walks

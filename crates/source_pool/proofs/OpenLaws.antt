@@ -10,7 +10,9 @@ use Rattle.source_state.specs.State.{IsSound}
 use Rattle.source_pool.specs.Seen.{state_seen}
 use Rattle.source_pool.specs.Passes.{Feed, no_feed, lock_at, hold_at, feed_at}
 use Rattle.source_pool.specs.Sharing.{first_hold, first_feed, IsOpened}
+use Rattle.source_pool.specs.Remembering.{Remembers}
 use Rattle.source_pool.proofs.SeenLaws.{sound_first}
+use Rattle.source_pool.proofs.RememberLaws.{none_remembered}
 use Rattle.source_pool.proofs.Fronts.{last_or_before, read_before, read_last}
 
 -- what is held of each source, and its feeder
@@ -31,6 +33,8 @@ opened_from counts pool holds feeds h = record {
         subst (λ (hold : Hold). IsFree (lock_at pool source) hold.pass) (sym (h.held source lt)) (record { own = refl; rests = refl });
     sound = λ source within. let lt : source < length counts = subst (λ n. source < n) h.locks within in
         subst (λ (hold : Hold). IsSound (state_seen hold.pass.1)) (sym (h.held source lt)) (sound_first source (slice_index counts source) (h.small source lt));
+    remembers = λ source within. let lt : source < length counts = subst (λ n. source < n) h.locks within in
+        subst (λ (hold : Hold). Remembers hold.pass.1.seen hold.remembered) (sym (h.held source lt)) (none_remembered []);
   };
   feeders = record {
     size = h.feeds_size ∙ sym h.locks;

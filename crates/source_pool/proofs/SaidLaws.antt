@@ -27,6 +27,14 @@ asked_found s object ask e =
     let found = ask_found s.log s.asks object ask e in
     (found.0, ap (option_map (λ (one : Ask). asked_as one.settling)) e ∙ ap (λ (one : Ask). Some (asked_as one.settling)) found.1)
 
+-- what became of an ask, by the log
+pub asked_settling : (s : State) (object : ℕ) (became : Asked) → asked_in s object ≡ Some became → asked_as (settling_in s.log object) ≡ became
+asked_settling s object became e =
+    elim (option_cases (ask_of (asks_of s) object)) [
+      | inl none ↦ absurd (none_not_some (sym (not_asked s object none) ∙ e))
+      | inr some ↦ (let is : Some (asked_as (settling_in s.log object)) ≡ Some became = sym (asked_found s object some.0 some.1).1 ∙ e in cc)
+    ]
+
 -- what wasn't asked isn't settled
 unsettled : (s : State) (object : ℕ) → IsSound s → ask_of (asks_of s) object ≡ None → settling_in s.log object ≡ None
 unsettled s object sound none =

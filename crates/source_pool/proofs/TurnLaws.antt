@@ -5,6 +5,7 @@ use Rattle.std.proofs.lemmas.List.{length_push}
 use Rattle.std.proofs.Math.Seq.{drop-length, drop-append_seam}
 use Rattle.std.specs.Option.{IfSome}
 use Rattle.atomic_table.specs.Seated.{TableId}
+use Rattle.ranked_list.specs.declared.row.Row.{Row}
 use Rattle.ranked_list.specs.declared.need.Need.{Need}
 use Rattle.ranked_list.specs.declared.need.Need.TheVariants as need
 use Rattle.turn_lock.specs.declared.facts.Tally.{Tally}
@@ -12,7 +13,7 @@ use Rattle.turn_lock.specs.declared.facts.Facts.{Facts}
 use Rattle.turn_lock.specs.declared.known.Known.{Known}
 use Rattle.turn_lock.specs.Facts.{AtMost, FactsGrow, AreFactsKept}
 use Rattle.turn_lock.specs.Known.{KnowsOf, raised, holding, after_turn}
-use Rattle.turn_lock.proofs.Growth.{begins_on, at_most_on}
+use Rattle.turn_lock.proofs.Growth.{begins_same, at_most_same, begins_on, at_most_on}
 use Rattle.source_state.specs.declared.ask.Ask.{Ask}
 use Rattle.source_state.specs.declared.entry.LogEntry.{LogEntry}
 use Rattle.source_api.specs.declared.source.FailKind.{FailKind}
@@ -29,8 +30,16 @@ use Rattle.source_state.specs.Looking as looking
 use Rattle.source_state.proofs.Lists.{eqb_same, none_not_some}
 use Rattle.source_state.proofs.Counting.{told_more}
 use Rattle.source_pool.specs.declared.hold.Hold.{Hold}
-use Rattle.source_pool.specs.Looks.{said_in, MayLookFor, HasNoRoom, told_of, Answers, KeepsMarks, HasCalled, GoesOn, BeginsToWait, Ends, Waits, shown_by, TookTurn, IsTurn, IsWithin}
+use Rattle.source_pool.specs.Looks.{said_in, MayLookFor, HasNoRoom, told_of, Answers, KeepsMarks, HasCalled, GoesOn, BeginsToWait, Ends, Waits, shown_by, KnowsOn, rested, IsGlance, IsTurn, IsWithin}
 use Rattle.source_pool.specs.Holds.{SourcePass}
+use Rattle.source_pool.specs.Seen.{state_seen}
+use Rattle.limits.specs.declared.TheConstants.{MAX_OBJECTS}
+use Rattle.source_state.specs.Log.{rows_in}
+use Rattle.source_pool.specs.declared.remembered.Remembered.{Remembered}
+use Rattle.source_pool.specs.Windows.{row_held, window_after, IsInReach, IsWindowOf}
+use Rattle.source_pool.specs.Remembering.{IsHeld, AreSettled, Remembers}
+use Rattle.source_pool.proofs.WindowLaws.{window_left}
+use Rattle.source_pool.proofs.RememberLaws.{settled_on, held_answer}
 use Rattle.source_pool.proofs.SaidLaws.{said_is, full_parts, full_from, asked_member}
 
 -- a turn of a look, and what the calls in it promise
@@ -218,9 +227,9 @@ waits n before after (look.Fault (why.AsksFull kept)) t = ends t t.turn.looks.en
 waits n before after (look.Fault (why.Call what)) t = ends t t.turn.looks.ends
 
 -- what a turn leaves of the pass
-pub took_turn : (n : Need) (before after : Hold) (answer : Look) → Turned n before after answer → TookTurn before.pass.1 after.pass.1
-took_turn n before after answer t =
-    subst (TookTurn before.pass.1) (sym t.turn.gave)
+pub knows_on : (n : Need) (before after : Hold) (answer : Look) → Turned n before after answer → KnowsOn before.pass.1 after.pass.1
+knows_on n before after answer t =
+    subst (KnowsOn before.pass.1) (sym t.turn.gave)
     (record {
       follows = record {
         seen = begins_on t.turn.agrees.past.seen t.grows.log;
@@ -230,7 +239,6 @@ took_turn n before after answer t =
       name = refl;
       parts = refl;
       writer = refl;
-      turns = refl;
     })
 
 -- what was shown stays within what the pass knows
@@ -284,7 +292,7 @@ by_answer n before after (look.Fault (why.Call what)) h shown a w = record { sho
 
 pub within : (n : Need) (before after : Hold) (answer : Look) → Turned n before after answer → IsWithin before → IsWithin after
 within n before after answer t h =
-    by_answer n before after answer (record { tally = (took_turn n before after answer t).follows.tally; within = h }) t.shown (answers n before after answer t) (waits n before after answer t)
+    by_answer n before after answer (record { tally = (knows_on n before after answer t).follows.tally; within = h }) t.shown (answers n before after answer t) (waits n before after answer t)
 
 -- what a give promises of a pass that had the turn
 abbrev Given : TableId → Facts LogEntry → SourcePass → SourcePass → Type 0
@@ -296,19 +304,103 @@ given_is : (table : TableId) (known : Known LogEntry) (taken given : Facts LogEn
     → IfSome mid.1.held (λ f. ◌≡◌ {A = SourcePass} after (table, after_turn f given mid.1)) → ◌≡◌ {A = SourcePass} after (table, after_turn taken given known)
 given_is table known taken given mid after e h = subst (Given table given after) e h
 
+-- what the pass has seen then
+pub seen_given : (table : TableId) (known : Known LogEntry) (found left : State) (mid after : SourcePass) → ◌≡◌ {A = SourcePass} mid (table, holding (facts_of found) known)
+    → IfSome mid.1.held (λ f. ◌≡◌ {A = SourcePass} after (table, after_turn f (facts_of left) mid.1)) → after.1.seen ≡ left.log
+seen_given table known found left mid after took gave = ap (λ (p : SourcePass). p.1.seen) (given_is table known (facts_of found) (facts_of left) mid after took gave)
+
 -- a turn of a look, by what the calls in it ensure
-pub turned_by : (n : Need) (before : Hold) (table : TableId) (found left : State) (mid after : SourcePass) (waiting : Waiting) (shown : Tally) (answer : Look)
+pub turned_by : (n : Need) (before : Hold) (table : TableId) (found left : State) (mid after : SourcePass) (waiting : Waiting) (shown : Tally) (remembered : Remembered) (answer : Look)
+    → row_held before.remembered.rows n ≡ None → remembered.rows ≡ window_after answer n (rows_in left.log) before.remembered.rows
     → MayLookFor before.pass.1 n → KnowsOf (facts_of found) before.pass.1 → IsSound found → IsSound left → Looks n found left before.waiting waiting answer
     → FactsGrow (facts_of found) (facts_of left) → AreFactsKept (facts_of found) (facts_of left) → ◌≡◌ {A = SourcePass} mid (table, holding (facts_of found) before.pass.1)
     → IfSome mid.1.held (λ f. ◌≡◌ {A = SourcePass} after (table, after_turn f (facts_of left) mid.1)) → shown ≡ shown_by answer before.shown
-    → Turned n before (record { pass = after; waiting = waiting; shown = shown }) answer
-turned_by n before table found left mid after waiting shown answer may agrees sound sound_left looks grows keeps took gave same =
+    → Turned n before (record { pass = after; waiting = waiting; shown = shown; remembered = remembered }) answer
+turned_by n before table found left mid after waiting shown remembered answer unheld fills may agrees sound sound_left looks grows keeps took gave same =
     let is = given_is table before.pass.1 (facts_of found) (facts_of left) mid after took gave in
     record {
-      turn = record { found = found; left = left; agrees = agrees; looks = looks; gave = ap (λ (p : SourcePass). p.1) is; sound = sound_left };
+      turn = record {
+        unheld = unheld;
+        found = found;
+        left = left;
+        agrees = agrees;
+        looks = looks;
+        gave = ap (λ (p : SourcePass). p.1) is;
+        sound = sound_left;
+        fills = fills ∙ ap (λ (p : SourcePass). window_after answer n (rows_in p.1.seen) before.remembered.rows) (sym is);
+      };
       may = may;
       found = sound;
       grows = grows;
       keeps = keeps;
       shown = same;
     }
+
+-- a depth of the list is one that a list may have
+pub in_reach : (n : Need) (known : Known LogEntry) (s : State) → MayLookFor known n → (s.list, s.count) ≡ known.name → IsSound s → IsInReach n
+in_reach (need.Row list depth) known s may name sound =
+    let count : s.count ≡ known.name.1 = ap (λ (p : ℕ × ℕ). p.1) name in
+    let small = sound.small in
+    (may.0, omega (arith, may.1, count, small))
+in_reach (need.Grade list object) known s may name sound = tt
+in_reach need.Done known s may name sound = absurd may
+
+-- after a turn what is remembered is of what the pass has seen, if grades that the state that was left had settled stay so
+pub remembers_turned : (n : Need) (before after : Hold) (answer : Look) (log : List LogEntry) → Turned n before after answer → after.pass.1.seen ≡ log
+    → Remembers before.pass.1.seen before.remembered → (AreSettled log before.remembered.grades → AreSettled log after.remembered.grades)
+    → Remembers after.pass.1.seen after.remembered
+remembers_turned n before after answer log t seen h keeps =
+    let goes = (knows_on n before after answer t).follows.seen in
+    record {
+      rows = subst (IsWindowOf (rows_in after.pass.1.seen)) (sym t.turn.fills)
+          (window_left answer n before.pass.1.seen after.pass.1.seen before.remembered.rows goes
+          (in_reach n before.pass.1 t.turn.found t.may t.turn.agrees.name t.found) h.rows);
+      grades = subst (λ l. AreSettled l after.remembered.grades) (sym seen)
+          (keeps (subst (λ l. AreSettled l before.remembered.grades) seen (settled_on before.pass.1.seen after.pass.1.seen before.remembered.grades goes h.grades)));
+    }
+
+-- a look that what is remembered answers
+pub glanced : (n : Need) (before : Hold) (answer : Look) → IsSound (state_seen before.pass.1) → Remembers before.pass.1.seen before.remembered
+    → IsHeld before.remembered n answer → IsGlance n before (rested before) answer
+glanced n before answer sound remembers held = record {
+  held = held;
+  decides = held_answer (state_seen before.pass.1) n before.remembered answer sound remembers held;
+  sound = sound;
+  same = refl;
+}
+
+glance_said : (n : Need) (before : Hold) (answer : Look) → IsGlance n before (rested before) answer → said_in before.pass.1.seen n ≡ Some answer
+glance_said n before answer glance = said_is (state_seen before.pass.1) n glance.sound ∙ glance.decides
+
+pub glance_answers : (n : Need) (before : Hold) (answer : Look) → IsGlance n before (rested before) answer → Answers n before (rested before) answer
+glance_answers n before (look.Row row) glance = record { says = glance_said n before (look.Row row) glance }
+glance_answers n before (look.Grade grade) glance = record { says = glance_said n before (look.Grade grade) glance }
+glance_answers n before look.NotYet glance = absurd glance.held
+glance_answers n before (look.Fault fault) glance = absurd glance.held
+
+pub glance_waits : (n : Need) (before : Hold) (answer : Look) → IsGlance n before (rested before) answer → Waits n before (rested before) answer
+glance_waits n before (look.Row row) glance = record { over = refl; marks = record { high = refl; asked = refl; mine = refl } }
+glance_waits n before (look.Grade grade) glance = record { over = refl; marks = record { high = refl; asked = refl; mine = refl } }
+glance_waits n before look.NotYet glance = absurd glance.held
+glance_waits n before (look.Fault fault) glance = absurd glance.held
+
+pub glance_shown : (n : Need) (before : Hold) (answer : Look) → IsGlance n before (rested before) answer → before.shown ≡ shown_by answer before.shown
+glance_shown n before (look.Row row) glance = refl
+glance_shown n before (look.Grade grade) glance = refl
+glance_shown n before look.NotYet glance = absurd glance.held
+glance_shown n before (look.Fault fault) glance = absurd glance.held
+
+pub row_said : (n : Need) (hold : Hold) (row : Row) → IsSound (state_seen hold.pass.1) → Remembers hold.pass.1.seen hold.remembered
+    → row_held hold.remembered.rows n ≡ Some row → said_in hold.pass.1.seen n ≡ Some (look.Row row)
+row_said n hold row sound remembers held = glance_said n hold (look.Row row) (glanced n hold (look.Row row) sound remembers held)
+
+pub glance_knows : (before : Hold) → KnowsOn before.pass.1 (rested before).pass.1
+glance_knows before = record {
+  follows = record { seen = begins_same _; met = begins_same _; tally = at_most_same _ };
+  name = refl;
+  parts = refl;
+  writer = refl;
+}
+
+pub glance_within : (before : Hold) → IsWithin before → IsWithin (rested before)
+glance_within before h = record { shown = h.shown; noted = λ some. absurd (some refl) }

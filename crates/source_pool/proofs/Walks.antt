@@ -13,7 +13,9 @@ use Rattle.source_pool.specs.Seen.{state_seen}
 use Rattle.source_pool.specs.Passes.{lock_at, hold_at, IsPassOf}
 use Rattle.source_pool.specs.HoldSharing.{kept_hold, new_hold, joined_hold}
 use Rattle.source_pool.specs.Sharing.{IsSplit, IsJoined}
+use Rattle.source_pool.specs.Remembering.{Remembers}
 use Rattle.source_pool.proofs.SeenLaws.{sound_joined}
+use Rattle.source_pool.proofs.RememberLaws.{none_remembered}
 use Rattle.source_pool.proofs.Fronts.{last_or_before, read_before, read_last, front_before, front_last, front_within}
 
 -- the sources before a place are split
@@ -108,6 +110,7 @@ split_kept pool before holds others own h = record {
   size = h.size ∙ own.size;
   each = λ source lt. subst (λ (one : Hold). IsFree (lock_at pool source) one.pass) (sym (h.kept source lt)) (free_kept (lock_at pool source) (hold_at before source) (own.each source lt));
   sound = λ source lt. subst (λ (one : Hold). IsSound (state_seen one.pass.1)) (sym (h.kept source lt)) (own.sound source lt);
+  remembers = λ source lt. subst (λ (one : Hold). Remembers one.pass.1.seen one.remembered) (sym (h.kept source lt)) (own.remembers source lt);
 }
 
 pub split_given : (pool : List TableId) (before holds others : List Hold) → IsPassOf pool before → SplitTo (length pool) before holds others
@@ -116,6 +119,8 @@ split_given pool before holds others own h = record {
   size = h.new;
   each = λ source lt. subst (λ (one : Hold). IsFree (lock_at pool source) one.pass) (sym (h.given source lt)) (free_new (lock_at pool source) (hold_at before source) (own.each source lt));
   sound = λ source lt. subst (λ (one : Hold). IsSound (state_seen one.pass.1)) (sym (h.given source lt)) (own.sound source lt);
+  remembers = λ source lt. subst (λ (one : Hold). Remembers one.pass.1.seen one.remembered) (sym (h.given source lt))
+      (none_remembered (hold_at before source).pass.1.seen);
 }
 
 pub split_is : (pool : List TableId) (before holds others : List Hold) → SplitTo (length pool) before holds others → IsSplit pool before holds others
@@ -145,6 +150,10 @@ joined_own pool before other holds rest_of own others h = record {
       subst (λ (after : Hold). IsFree (lock_at pool source) after.pass) (sym one.is) (free_joined (lock_at pool source) (hold_at before source) (hold_at other source) (own.each source lt));
   sound = λ source lt. sound_one (hold_at before source) (hold_at other source) (hold_at holds source)
       (h.done source (omega arith) (subst (λ n. source < n) (sym own.size) lt)) (own.sound source lt) (others.sound source lt);
+  remembers = λ source lt.
+      let one = h.done source (omega arith) (subst (λ n. source < n) (sym own.size) lt) in
+      subst (λ (after : Hold). Remembers after.pass.1.seen after.remembered) (sym one.is)
+      (none_remembered (joined (hold_at before source).pass.1 (hold_at other source).pass.1).seen);
 }
 
 pub joined_is : (pool : List TableId) (before other holds rest_of : List Hold) → IsPassOf pool before → JoinedFrom 0 before other holds rest_of

@@ -7,6 +7,7 @@ use Rattle.turn_lock.specs.Rule.{nobody}
 use Rattle.source_state.specs.declared.entry.LogEntry.{LogEntry}
 use Rattle.source_state.specs.declared.look.Waiting.{Waiting}
 use Rattle.source_pool.specs.declared.hold.Hold.{Hold}
+use Rattle.source_pool.specs.Remembering.{nothing}
 
 -- a pass of the lock of a source: the lock's table, and what the pass knows
 abbrev pub SourcePass : Type 0
@@ -26,7 +27,7 @@ abbrev pub no_waiting : Waiting
 no_waiting = record { need = None; noted = no_fails }
 
 abbrev pub no_hold : Hold
-no_hold = record { pass = no_pass; waiting = no_waiting; shown = no_fails }
+no_hold = record { pass = no_pass; waiting = no_waiting; shown = no_fails; remembered = nothing }
 
 -- a pass is of a lock and has no turn
 pub record IsFree (lock : TableId) (pass : SourcePass) : Type 0 where

@@ -1,3 +1,5 @@
+pub mod Windows
+pub mod Remembering
 pub mod Holds
 pub mod Seen
 pub mod Looks

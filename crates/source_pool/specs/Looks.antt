@@ -16,8 +16,11 @@ use Rattle.source_state.specs.declared.look.LookFault.TheVariants as why
 use Rattle.source_state.specs.Log.{rows_in, fault_in, settling_in}
 use Rattle.source_state.specs.State.{State, asked_as, facts_of, IsSound}
 use Rattle.source_state.specs.Events.{counted}
-use Rattle.source_state.specs.Looking.{waits_for, row_or_fault, grade_or, told, Looks}
+use Rattle.source_state.specs.Looking.{waits_for, row_or_fault, grade_or, told, decided, Looks}
 use Rattle.source_pool.specs.declared.hold.Hold.{Hold}
+use Rattle.source_pool.specs.Seen.{state_seen}
+use Rattle.source_pool.specs.Windows.{row_held, window_after}
+use Rattle.source_pool.specs.Remembering.{IsHeld}
 
 -- what a log says of a need, if it decides it: the row at the depth, else the row fault; what the object settled as, else its grade
 -- in the rows
@@ -144,22 +147,40 @@ shown_by (look.Grade grade) shown = shown
 shown_by look.NotYet shown = shown
 shown_by (look.Fault fault) shown = shown_fault fault shown
 
--- what a turn of a reader leaves of its pass: it knows at least as much, and had one turn more
-pub record TookTurn (before after : Known LogEntry) : Type 0 where
+-- what a look leaves of its pass: it knows at least as much of the same source, and has the same parts
+pub record KnowsOn (before after : Known LogEntry) : Type 0 where
   pub follows : Follows before after
   pub name : after.name ≡ before.name
   pub parts : after.parts ≡ before.parts
   pub writer : after.writer ≡ before.writer
-  pub turns : after.turns ≡ before.turns + 1
 
--- a look at the state that its turn found, which left this sound state
+-- what is held of a source where nothing more is waited for
+abbrev pub rested : Hold → Hold
+rested hold = record hold { waiting = record hold.waiting { need = None } }
+
+-- a look that what the pass remembers answered: what it has seen decides the need so, no turn is taken, and nothing changes but that the pass waits
+-- for nothing more at the source
+pub record IsGlance (need : Need) (before after : Hold) (answer : Look) : Type 0 where
+  pub held : IsHeld before.remembered need answer
+  pub decides : decided (state_seen before.pass.1) need ≡ Some answer
+  pub sound : IsSound (state_seen before.pass.1)
+  pub same : after ≡ rested before
+
+-- a look at the state that its turn found, which left this sound state; the needed row isn't remembered, and where the state has it, its rows
+-- from there on are copied
 pub record IsTurn (need : Need) (before after : Hold) (answer : Look) : Type 0 where
+  pub unheld : row_held before.remembered.rows need ≡ None
   pub found : State
   pub left : State
   pub agrees : KnowsOf (facts_of found) before.pass.1
   pub looks : Looks need found left before.waiting after.waiting answer
   pub gave : after.pass.1 ≡ after_turn (facts_of found) (facts_of left) before.pass.1
   pub sound : IsSound left
+  pub fills : after.remembered.rows ≡ window_after answer need (rows_in after.pass.1.seen) before.remembered.rows
+
+-- a look is answered by what is remembered, or in a turn
+abbrev pub IsLook : Need → Hold → Hold → Look → Type 0
+IsLook need before after answer = IsGlance need before after answer ⊎ IsTurn need before after answer
 
 -- no more fails were shown than the pass knows of, nor than it noted while it waits
 pub record IsWithin (hold : Hold) : Type 0 where

@@ -9,6 +9,7 @@ use Rattle.source_pool.specs.declared.hold.Hold.{Hold}
 use Rattle.source_state.specs.State.{IsSound}
 use Rattle.source_pool.specs.Holds.{SourcePass, no_lock, no_pass, no_hold, IsFree}
 use Rattle.source_pool.specs.Seen.{state_seen}
+use Rattle.source_pool.specs.Remembering.{Remembers}
 
 -- the lock of a source, by the source's number; what a pool's pass holds of it
 abbrev pub lock_at : List TableId → ℕ → TableId
@@ -17,11 +18,13 @@ lock_at pool source = slice_index_or pool source no_lock
 abbrev pub hold_at : List Hold → ℕ → Hold
 hold_at holds source = slice_index_or holds source no_hold
 
--- a pass of this pool: of each source it holds a pass of its lock, which has no turn, and what it has seen of the source is sound
+-- a pass of this pool: of each source it holds a pass of its lock, which has no turn; what it has seen of the source is sound, and
+-- what it remembers is of that
 pub record IsPassOf (pool : List TableId) (holds : List Hold) : Type 0 where
   pub size : length holds ≡ length pool
   pub each : (source : ℕ) → source < length pool → IsFree (lock_at pool source) (hold_at holds source).pass
   pub sound : (source : ℕ) → source < length pool → IsSound (state_seen (hold_at holds source).pass.1)
+  pub remembers : (source : ℕ) → source < length pool → Remembers (hold_at holds source).pass.1.seen (hold_at holds source).remembered
 
 -- what is held of the other sources stays
 pub record OthersStay (source : ℕ) (before after : List Hold) : Type 0 where

@@ -4,12 +4,13 @@ use Rattle.atomic_table.specs.Seated.{TableId}
 use Rattle.turn_lock.specs.Known.{all_parts, Follows, without, split_off}
 use Rattle.source_pool.specs.declared.hold.Hold.{Hold}
 use Rattle.source_pool.specs.Holds.{no_fails, no_waiting}
+use Rattle.source_pool.specs.Remembering.{nothing}
 use Rattle.source_pool.specs.HoldSharing.{first_known, kept_hold, new_hold, joined_hold}
 use Rattle.source_pool.specs.Passes.{lock_at, hold_at, feed_at, Feed, IsPassOf, AreFeedersOf}
 
 -- what the first pass of a pool holds: all parts but the feeder's one
 abbrev pub first_hold : TableId → ℕ → ℕ → Hold
-first_hold table source count = record { pass = (table, split_off (all_parts - 1) (first_known source count)); waiting = no_waiting; shown = no_fails }
+first_hold table source count = record { pass = (table, split_off (all_parts - 1) (first_known source count)); waiting = no_waiting; shown = no_fails; remembered = nothing }
 
 abbrev pub first_feed : TableId → ℕ → ℕ → Feed
 first_feed table source count = record { source = source; pass = (table, without (all_parts - 1) (first_known source count)) }

@@ -1,5 +1,6 @@
 //! What a pass holds of one source.
 
+use super::remembered::Remembered;
 use source_state::{SourceState, Tally, Waiting};
 use turn_lock::Pass;
 
@@ -25,4 +26,6 @@ pub struct Hold {
     pub waiting: Waiting,
     /// How many looks told a fail of each kind. A count stands still at its last number.
     pub shown: Tally,
+    /// What the pass remembers of the source.
+    pub remembered: Remembered,
 }

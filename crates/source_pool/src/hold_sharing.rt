@@ -3,16 +3,19 @@
 ghost use Rattle.std.specs.Prelude.{◌≡◌, ◌≤◌};
 ghost use Rattle.turn_lock.specs.Known.{Follows};
 ghost use Rattle.source_pool.specs.Holds.{IsFree};
+ghost use Rattle.source_pool.specs.Remembering.{nothing};
 ghost use Rattle.source_pool.specs.HoldSharing.{kept_hold, new_hold, joined_hold, added, all_shown};
 
 use super::hold::{Hold, NO_FAILS, NO_WAITING};
+use super::remembered::Remembered;
 use source_state::{SourceState, Tally};
 use turn_lock::TurnLock;
 
-/// Splits one part of a source off. The new pass knows as much, did nothing yet, and waits for nothing.
-pub fn split_one(lock: &TurnLock<SourceState>, hold: &mut Hold) -> Hold
+/// Splits one part of a source off. The new pass knows as much, did nothing yet, waits for nothing, and remembers nothing.
+pub fn split_one(lock: &TurnLock<SourceState>, hold: &mut Hold, remembered: Remembered) -> Hold
     requires own { IsFree lock.now hold.old.pass }
     requires parts { 2 ≤ hold.old.pass.1.parts }
+    requires empty { remembered ≡ nothing }
     ensures kept { hold.new ≡ kept_hold hold.old }
     ensures given { result ≡ new_hold hold.old }
 {
@@ -20,6 +23,7 @@ pub fn split_one(lock: &TurnLock<SourceState>, hold: &mut Hold) -> Hold
         pass: lock.split(&mut hold.pass, 1),
         waiting: NO_WAITING,
         shown: NO_FAILS,
+        remembered,
     }
 }
 
@@ -46,5 +50,6 @@ pub fn join_one(lock: &TurnLock<SourceState>, hold: &mut Hold, other: Hold)
     let Hold { pass, shown, .. } = other;
     lock.join(&mut hold.pass, pass);
     hold.waiting.need = None;
+    hold.remembered.clear();
     hold.shown = all_shown(hold.shown, shown);
 }

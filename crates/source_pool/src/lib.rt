@@ -1,11 +1,12 @@
 //! What queries share: of each source the one state behind its lock, looked at through passes, and fed by the one feeder of the source.
 //!
-//! What a pass holds of one source is a `Hold`: a look through it takes one turn of that source's lock. A pass is opened, split
-//! and joined source by source.
+//! What a pass holds of one source is a `Hold`: a look through it takes one turn of that source's lock, or is answered by what
+//! the pass remembers of earlier ones. A pass is opened, split and joined source by source.
 #![tactic(auto)]
 
 mod closing;
 mod feeder;
+mod grades;
 mod hold;
 mod hold_sharing;
 mod laws;
@@ -14,10 +15,13 @@ mod look;
 mod opening;
 mod pool;
 mod pool_pass;
+mod remembered;
 mod sharing;
+mod window;
 
 pub use closing::close_all;
 pub use feeder::Feeder;
+pub use grades::{Grades, MOST_GRADES};
 pub use hold::{Hold, NO_FAILS, NO_WAITING};
 pub use hold_sharing::{join_one, split_one};
 pub use laws::a_log_says_what_it_has;
@@ -27,9 +31,11 @@ pub use look::look_once;
 pub use opening::{Opened, open_all};
 pub use pool::Pool;
 pub use pool_pass::PoolPass;
+pub use remembered::Remembered;
 pub use sharing::{join_all, split_all};
 pub use source_state::Memory;
 use source_state::SourceState;
+pub use window::{WINDOW_ROWS, Window};
 
 /// The states of sources, in the order of their numbers.
 pub type States = Listed<SourceState>;

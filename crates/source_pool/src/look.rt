@@ -2,10 +2,12 @@
 
 ghost use Rattle.std.specs.Prelude.{◌≡◌, ◌<◌, None};
 ghost use Rattle.source_pool.specs.Holds.{IsFree};
-ghost use Rattle.source_pool.specs.Looks.{MayLookFor, Answers, Waits, shown_fault, shown_by, TookTurn, IsTurn, IsWithin};
+ghost use Rattle.source_pool.specs.Looks.{MayLookFor, Answers, Waits, shown_fault, shown_by, KnowsOn, IsTurn, IsLook, IsWithin};
 ghost use Rattle.source_state.specs.Events.{counted};
 ghost use Rattle.source_state.specs.State.{IsSound};
 ghost use Rattle.source_pool.specs.Seen.{state_seen};
+ghost use Rattle.source_pool.specs.Windows.{row_held};
+ghost use Rattle.source_pool.specs.Remembering.{Remembers};
 
 use super::hold::Hold;
 use ranked_list::Need;
@@ -54,24 +56,51 @@ fn shown_by(answer: Look, shown: Tally) -> Tally
     }
 }
 
-/// Looks for a need in one turn.
-pub fn look_once(rt: &impl Wait, lock: &TurnLock<SourceState>, hold: &mut Hold, need: Need) -> Look
+/// Looks for a need in one turn, and remembers the row or the grade that is there.
+fn look_in_turn(rt: &impl Wait, lock: &TurnLock<SourceState>, hold: &mut Hold, need: Need) -> Look
     requires own { IsFree lock.now hold.old.pass }
     requires need { MayLookFor hold.old.pass.1 need }
+    requires unheld { row_held hold.old.remembered.rows need ≡ None }
+    requires remembers { Remembers hold.old.pass.1.seen hold.old.remembered }
     ensures own { IsFree lock.now hold.new.pass }
     ensures sound { IsSound (state_seen hold.new.pass.1) }
-    ensures turn { IsTurn need hold.old hold.new result }
+    ensures remembers { Remembers hold.new.pass.1.seen hold.new.remembered }
+    ensures look { IsTurn need hold.old hold.new result }
     ensures answer { Answers need hold.old hold.new result }
     ensures waits { Waits need hold.old hold.new result }
     ensures shown { hold.new.shown ≡ shown_by result hold.old.shown }
-    ensures took { TookTurn hold.old.pass.1 hold.new.pass.1 }
+    ensures knows { KnowsOn hold.old.pass.1 hold.new.pass.1 }
     ensures within { IsWithin hold.old → IsWithin hold.new }
 {
     let mut state = lock.take(rt, &mut hold.pass);
     // Serves the prover alone: `count` promises that the state is sound.
     let _ = state.count();
     let answer = look_at(&mut state, &mut hold.waiting, need);
+    hold.remembered.keep(&state, need, answer);
     lock.give(&mut hold.pass, state);
     hold.shown = shown_by(answer, hold.shown);
     answer
+}
+
+/// Looks for a need: what is remembered answers it, else one turn is taken.
+pub fn look_once(rt: &impl Wait, lock: &TurnLock<SourceState>, hold: &mut Hold, need: Need) -> Look
+    requires own { IsFree lock.now hold.old.pass }
+    requires need { MayLookFor hold.old.pass.1 need }
+    requires sound { IsSound (state_seen hold.old.pass.1) }
+    requires remembers { Remembers hold.old.pass.1.seen hold.old.remembered }
+    ensures own { IsFree lock.now hold.new.pass }
+    ensures sound { IsSound (state_seen hold.new.pass.1) }
+    ensures remembers { Remembers hold.new.pass.1.seen hold.new.remembered }
+    ensures look { IsLook need hold.old hold.new result }
+    ensures answer { Answers need hold.old hold.new result }
+    ensures waits { Waits need hold.old hold.new result }
+    ensures shown { hold.new.shown ≡ shown_by result hold.old.shown }
+    ensures knows { KnowsOn hold.old.pass.1 hold.new.pass.1 }
+    ensures within { IsWithin hold.old → IsWithin hold.new }
+{
+    if let Some(answer) = hold.remembered.answer(need) {
+        hold.waiting.need = None;
+        return answer;
+    }
+    look_in_turn(rt, lock, hold, need)
 }

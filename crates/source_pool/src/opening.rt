@@ -6,11 +6,13 @@ ghost use Rattle.source_pool.specs.Holds.{IsFree};
 ghost use Rattle.source_pool.specs.Passes.{IsPassOf, hold_at, lock_at};
 ghost use Rattle.source_pool.specs.Sharing.{first_hold, first_feed, IsOpened};
 ghost use Rattle.source_pool.specs.HoldSharing.{first_known};
+ghost use Rattle.source_pool.specs.Remembering.{nothing};
 ghost use Rattle.source_pool.specs.Rooms.{HasRoom, HasPlace, IsEmpty};
 
 use super::feeder::Feeder;
 use super::hold::{Hold, NO_FAILS, NO_WAITING};
 use super::lock_opening::open_lock;
+use super::remembered::Remembered;
 use limits::MAX_OBJECTS;
 use source_state::{Memory, SourceState};
 use std::alloc::Global;
@@ -54,10 +56,17 @@ impl Opened {
 }
 
 /// Adds one more source, for which there is room.
-fn add(opened: &mut Opened, lock: TurnLock<SourceState>, mut writer: Pass<SourceState>, count: u32)
+fn add(
+    opened: &mut Opened,
+    lock: TurnLock<SourceState>,
+    mut writer: Pass<SourceState>,
+    remembered: Remembered,
+    count: u32,
+)
     requires few { vec_len opened.old.locks < 2 ^ 32 }
     requires count { count ≤ MAX_OBJECTS }
     requires room { HasPlace opened.old }
+    requires empty { remembered ≡ nothing }
     requires pass { writer ≡ (lock, first_known (length opened.old.locks.items) count) }
     ensures added { (counts : List ℕ) → IsOpened counts opened.old.locks.items opened.old.holds.items opened.old.feeders.items
         → IsOpened (counts ++ count ∷ []) opened.new.locks.items opened.new.holds.items opened.new.feeders.items }
@@ -69,6 +78,7 @@ fn add(opened: &mut Opened, lock: TurnLock<SourceState>, mut writer: Pass<Source
         pass,
         waiting: NO_WAITING,
         shown: NO_FAILS,
+        remembered,
     });
     opened.feeders.push_reserved(Feeder {
         source,
@@ -87,8 +97,9 @@ fn open_next(alloc: Global, opened: &mut Opened, count: u32) -> Result<(), Memor
     ensures room { OnOk result ((room : ℕ) → HasRoom room opened.old → HasRoom room opened.new) }
 {
     let source = opened.locks.len() as u32;
+    let remembered = Remembered::make(alloc, count)?;
     let (lock, writer) = open_lock(alloc, source, count)?;
-    add(opened, lock, writer, count);
+    add(opened, lock, writer, remembered, count);
     Ok(())
 }
 

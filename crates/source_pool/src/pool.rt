@@ -1,11 +1,13 @@
 //! Pools.
 
-ghost use Rattle.std.specs.Prelude.{◌≡◌, ◌≤◌, ◌<◌, ◌^◌, length, All, IfOk, OnOk, OnErr, IfSome, IsSomeAnd, None};
+ghost use Rattle.std.specs.Prelude.{◌≡◌, ◌≤◌, ◌<◌, ◌^◌, length, All, IfOk, OnOk, OnErr, IfSome, IsSomeAnd, Some, None};
 ghost use Rattle.turn_lock.specs.Facts.{FactsGrow};
 ghost use Rattle.turn_lock.specs.Known.{KnowsOf, HasAll};
 ghost use Rattle.source_state.specs.State.{facts_of};
 ghost use Rattle.source_pool.specs.Passes.{hold_at, IsPassOf, OthersStay, IsFeederOf, IsIdleOf, AreFeedersOf, in_turn, turned};
-ghost use Rattle.source_pool.specs.Looks.{MayLookFor, Answers, Waits, shown_by, TookTurn, IsTurn, IsWithin};
+ghost use Rattle.source_pool.specs.Looks.{MayLookFor, Answers, Waits, shown_by, said_in, KnowsOn, IsLook, IsWithin};
+ghost use Rattle.source_pool.specs.Windows.{row_held};
+ghost use Rattle.source_state.specs.declared.look.Look.TheVariants as look;
 ghost use Rattle.source_pool.specs.Sharing.{IsOpened, MaySplit, IsSplit, IsJoined};
 ghost use Rattle.source_pool.specs.Closed.{HaveAll, AreClosed};
 
@@ -14,10 +16,10 @@ use super::feeder::Feeder;
 use super::look::look_once;
 use super::opening::open_all;
 use super::pool_pass::PoolPass;
-use super::sharing::{join_all, split_all};
+use super::sharing::{join_all, make_all, split_all};
 use super::{Feeders, States};
 use limits::MAX_OBJECTS;
-use ranked_list::Need;
+use ranked_list::{Need, Row};
 use source_state::{Look, Memory, SourceState};
 use std::alloc::Global;
 use std::marker::Model;
@@ -55,7 +57,7 @@ impl Pool {
     /// A pool of sources with these counts of objects, with a pass and a feeder for each source. A feeder has one part of its source's
     /// lock, and the pass all others.
     ///
-    /// *Cost*: `SourceState::open` and a lock for each source, and the room for the closing states.
+    /// *Cost*: `SourceState::open`, a lock and the room for what is remembered for each source, and the room for the closing states.
     pub fn open(alloc: Global, counts: &[u32]) -> Result<(Pool, PoolPass, Feeders), Memory>
         requires few { length counts.now < 2 ^ 32 }
         requires counts { All (λ count. count ≤ MAX_OBJECTS) counts.now }
@@ -76,29 +78,42 @@ impl Pool {
         Ok((pool, pass, feeders))
     }
 
-    /// Looks for what a query needs of a source, by its number, in one turn of the source's lock, for which it may wait. The row at a
-    /// depth or the grade of an object is there, or it can't be had and the fault says why, or the pass waits for it, and the source's
-    /// feeder is woken.
+    /// Looks for what a query needs of a source, by its number. A row or a grade that the pass remembers is the answer; else it looks in one
+    /// turn of the source's lock, for which it may wait. The row at a depth or the grade of an object is there, or it can't be had and the
+    /// fault says why, or the pass waits for it, and the source's feeder is woken. A row that is there is remembered with those below it, up to
+    /// 256, and so is a grade for which the source was asked.
     ///
-    /// *Cost*: one turn of the source's lock, one `look_at` in it, and a ring for the feeder where nothing is there
-    /// yet; no memory, and nothing grows with what is kept.
+    /// *Cost*: one read of what is remembered; or one turn of the source's lock, one `look_at` in it, a copy of up to 256 rows where a row is
+    /// there, a look-up where a grade is, and a ring for the feeder where nothing is there yet. No memory, and nothing grows with what is kept.
     pub fn look(&self, rt: &impl Wait, pass: &mut PoolPass, source: u32, need: Need) -> Look
         requires own { IsPassOf self.now pass.old }
         requires source { source < length self.now }
         requires need { MayLookFor (hold_at pass.old source).pass.1 need }
         ensures own { IsPassOf self.now pass.new }
         ensures others { OthersStay source pass.old pass.new }
-        ensures turn { IsTurn need (hold_at pass.old source) (hold_at pass.new source) result }
+        ensures look { IsLook need (hold_at pass.old source) (hold_at pass.new source) result }
         ensures answer { Answers need (hold_at pass.old source) (hold_at pass.new source) result }
         ensures waits { Waits need (hold_at pass.old source) (hold_at pass.new source) result }
         ensures shown { (hold_at pass.new source).shown ≡ shown_by result (hold_at pass.old source).shown }
-        ensures took { TookTurn (hold_at pass.old source).pass.1 (hold_at pass.new source).pass.1 }
+        ensures knows { KnowsOn (hold_at pass.old source).pass.1 (hold_at pass.new source).pass.1 }
         ensures within { IsWithin (hold_at pass.old source) → IsWithin (hold_at pass.new source) }
     {
         let lock = &self.locks[source as usize];
         let answer = look_once(rt, lock, &mut pass.holds[source as usize], need);
         wake_feeder(lock, answer);
         answer
+    }
+
+    /// The row that is needed of a source, where the pass remembers it.
+    ///
+    /// *Cost*: no turn, no memory.
+    pub fn peek(&self, pass: &PoolPass, source: u32, need: Need) -> Option<Row>
+        requires own { IsPassOf self.now pass.now }
+        requires source { source < length self.now }
+        ensures held { result ≡ row_held (hold_at pass.now source).remembered.rows need }
+        ensures seen { IfSome result (λ row. said_in (hold_at pass.now source).pass.1.seen need ≡ Some (look.Row row)) }
+    {
+        pass.holds[source as usize].remembered.rows.row(need)
     }
 
     /// How often the feeder of a source told something. Who is to sleep after a look reads it before that look.
@@ -146,9 +161,11 @@ impl Pool {
         }
     }
 
-    /// Splits a pass off, which gets one part of each source. It knows as much, did nothing yet, and waits for nothing.
+    /// Splits a pass off, which gets one part of each source. It knows as much, did nothing yet, waits for nothing, and
+    /// remembers nothing.
     ///
-    /// *Cost*: one split of a pass for each source, and the memory of the new pass.
+    /// *Cost*: one split of a pass for each source, and the memory of the new pass, with room for 256 rows of each source and 8 bytes for each
+    /// of its objects, up to `MOST_GRADES`, which are first written to when a grade is remembered.
     pub fn split(&self, alloc: Global, pass: &mut PoolPass) -> Result<PoolPass, Memory>
         requires own { IsPassOf self.now pass.old }
         requires parts { MaySplit self.now pass.old }
@@ -160,12 +177,13 @@ impl Pool {
         let Ok(mut holds) = Vec::with_capacity(alloc, self.locks.len()) else {
             return Err(Memory);
         };
-        split_all(&self.locks, &mut pass.holds, &mut holds);
+        let mut made = make_all(alloc, &pass.holds)?;
+        split_all(&self.locks, &mut pass.holds, &mut made, &mut holds);
         Ok(PoolPass { holds })
     }
 
-    /// Makes one pass of two. Of each source it has the parts of both, knows what either does, was shown what both were, and waits for
-    /// nothing.
+    /// Makes one pass of two. Of each source it has the parts of both, knows what either does, was shown what both were, waits for
+    /// nothing, and remembers nothing.
     ///
     /// *Cost*: one join of a pass for each source.
     pub fn join(&self, pass: &mut PoolPass, other: PoolPass)

@@ -9,8 +9,12 @@ mod beside;
 #[cfg(test)]
 mod fetched;
 #[cfg(test)]
+mod remembered;
+#[cfg(test)]
 mod shared;
 #[cfg(test)]
 mod sides;
 #[cfg(test)]
 mod slow;
+#[cfg(test)]
+mod windows;

@@ -4,13 +4,14 @@ use Rattle.std.specs.Prelude.{slice_index}
 use Rattle.ranked_list.specs.declared.need.Need.{Need}
 use Rattle.ranked_list.specs.declared.need.Need.TheVariants as need
 use Rattle.atomic_table.specs.Seated.{TableId}
+use Rattle.turn_lock.specs.declared.facts.Facts.{Facts}
 use Rattle.turn_lock.specs.declared.known.Known.{Known}
 use Rattle.turn_lock.specs.Known.{all_parts}
 use Rattle.source_state.specs.declared.entry.LogEntry.{LogEntry}
 use Rattle.source_pool.specs.declared.hold.Hold.{Hold}
 use Rattle.source_pool.specs.Holds.{IsFree}
-use Rattle.source_pool.specs.Passes.{Feed, lock_at, hold_at, feed_at, IsPassOf, IsIdleOf, AreFeedersOf}
-use Rattle.source_pool.specs.Looks.{MayLookFor, TookTurn}
+use Rattle.source_pool.specs.Passes.{Feed, lock_at, hold_at, feed_at, IsPassOf, IsIdleOf, AreFeedersOf, turned}
+use Rattle.source_pool.specs.Looks.{MayLookFor, KnowsOn}
 use Rattle.source_pool.specs.Sharing.{first_hold, first_feed, IsOpened, MaySplit, IsSplit, IsJoined}
 use Rattle.source_pool.specs.Closed.{HaveAll}
 use Rattle.fetcher.specs.Turning.{Feeds}
@@ -96,32 +97,32 @@ have_all pool before other after feeds one joined parts = record {
 }
 
 -- after a look through the first pass, through the other, and after a turn of the fetcher
-pub looked_mine : (d : Desk) (after : List Hold) → IsReady d → IsPassOf d.pool after → TookTurn (hold_at d.pass 0).pass.1 (hold_at after 0).pass.1
+pub looked_mine : (d : Desk) (after : List Hold) → IsReady d → IsPassOf d.pool after → KnowsOn (hold_at d.pass 0).pass.1 (hold_at after 0).pass.1
     → IsReady (record d { pass = after })
-looked_mine d after h own took = record {
+looked_mine d after h own knows = record {
   pass = own;
   other = h.other;
   feeder = h.feeder;
   first = h.first;
   one = h.one;
-  mine = ap (λ (p : ℕ × ℕ). p.1) took.name ∙ h.mine;
+  mine = ap (λ (p : ℕ × ℕ). p.1) knows.name ∙ h.mine;
   his = h.his;
-  parts = let same = took.parts in let all = h.parts in omega (arith, same, all);
+  parts = let same = knows.parts in let all = h.parts in omega (arith, same, all);
   page = h.page;
   ahead = h.ahead;
 }
 
-pub looked_his : (d : Desk) (after : List Hold) → IsReady d → IsPassOf d.pool after → TookTurn (hold_at d.other 0).pass.1 (hold_at after 0).pass.1
+pub looked_his : (d : Desk) (after : List Hold) → IsReady d → IsPassOf d.pool after → KnowsOn (hold_at d.other 0).pass.1 (hold_at after 0).pass.1
     → IsReady (record d { other = after })
-looked_his d after h own took = record {
+looked_his d after h own knows = record {
   pass = h.pass;
   other = own;
   feeder = h.feeder;
   first = h.first;
   one = h.one;
   mine = h.mine;
-  his = ap (λ (p : ℕ × ℕ). p.1) took.name ∙ h.his;
-  parts = let same = took.parts in let all = h.parts in omega (arith, same, all);
+  his = ap (λ (p : ℕ × ℕ). p.1) knows.name ∙ h.his;
+  parts = let same = knows.parts in let all = h.parts in omega (arith, same, all);
   page = h.page;
   ahead = h.ahead;
 }
@@ -137,6 +138,22 @@ fed_ready d feed h idle same feeds = record {
   mine = h.mine;
   his = h.his;
   parts = let kept = feeds.parts in let all = h.parts in omega (arith, kept, all);
+  page = h.page;
+  ahead = h.ahead;
+}
+
+-- after a look through the first pass while the feeder had a turn, in which it gave what it took
+pub held_ready : (d : Desk) (after : List Hold) (feed : Feed) (f : Facts LogEntry) → IsReady d → IsPassOf d.pool after
+    → KnowsOn (hold_at d.pass 0).pass.1 (hold_at after 0).pass.1 → feed ≡ turned f f d.feeder → IsReady (record d { pass = after; feeder = feed })
+held_ready d after feed f h own knows is = record {
+  pass = own;
+  other = h.other;
+  feeder = subst (IsIdleOf d.pool) (sym is) (record { of = record { source = h.feeder.of.source; own = h.feeder.of.own }; rests = refl });
+  first = ap (λ (one : Feed). one.source) is ∙ h.first;
+  one = h.one;
+  mine = ap (λ (p : ℕ × ℕ). p.1) knows.name ∙ h.mine;
+  his = h.his;
+  parts = let same = knows.parts in let kept : feed.pass.1.parts ≡ d.feeder.pass.1.parts = ap (λ (one : Feed). one.pass.1.parts) is in let all = h.parts in omega (arith, same, kept, all);
   page = h.page;
   ahead = h.ahead;
 }

@@ -6,7 +6,7 @@ ghost use Rattle.turn_lock.specs.Known.{all_parts};
 ghost use Rattle.test_query_support.specs.Ready.{IsReady, MayAsk};
 
 use fetcher::{Turned, fetch_turn};
-use ranked_list::Need;
+use ranked_list::{Need, Row};
 use source_pool::{Feeder, Feeders, Pool, PoolPass};
 use source_state::Look;
 use std::alloc::Global;
@@ -32,6 +32,10 @@ pub enum Step {
     Look(Need, Look),
     /// A look through the other pass.
     Other(Need, Look),
+    /// The row of the first pass's window.
+    Peek(Need, Option<Row>),
+    /// A look through the first pass while the fetcher has the source's turn.
+    Held(Need, Look),
     /// A turn of the fetcher.
     Turn(Turned),
 }
@@ -147,6 +151,20 @@ impl Desk {
         Some(self.pool.look(rt, &mut self.other, 0, need))
     }
 
+    /// A look through the first pass while the fetcher has the source's turn: one for what isn't remembered never ends.
+    fn look_held(&mut self, rt: &impl Wait, need: Need) -> Option<Look>
+        requires { IsReady self.old }
+        ensures { IsReady self.new }
+    {
+        if !may_ask(self.count, need) {
+            return None;
+        }
+        let state = self.pool.take(rt, &mut self.feeder);
+        let look = self.pool.look(rt, &mut self.pass, 0, need);
+        self.pool.give(&mut self.feeder, state);
+        Some(look)
+    }
+
     /// A turn of the fetcher over a source.
     pub fn turn(&mut self, rt: &impl Wait, alloc: Global, source: &mut MemSource) -> Turned
         requires { IsReady self.old }
@@ -171,6 +189,8 @@ impl Desk {
         match step {
             Step::Look(need, look) => self.look(rt, need) == Some(look),
             Step::Other(need, look) => self.look_too(rt, need) == Some(look),
+            Step::Peek(need, row) => self.pool.peek(&self.pass, 0, need) == row,
+            Step::Held(need, look) => self.look_held(rt, need) == Some(look),
             Step::Turn(turned) => self.turn(rt, alloc, source) == turned,
         }
     }

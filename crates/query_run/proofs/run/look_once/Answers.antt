@@ -23,11 +23,11 @@ answer-requires-clause-may g c =
     c.requires.reading c.requires.going c.need-need.ensures.need (c.from.ensures ∙ c.list_needed-list.ensures) c.index-source.ensures
     (record {
       others = c.look-look.ensures.others;
-      turn = c.look-look.ensures.turn;
+      look = c.look-look.ensures.look;
       waits = c.look-look.ensures.waits;
       said = c.look-look.ensures.answer;
       shown = c.look-look.ensures.shown;
-      took = c.look-look.ensures.took;
+      knows = c.look-look.ensures.knows;
       within = c.look-look.ensures.within;
     }))
 
@@ -38,11 +38,11 @@ returns-clause-look g c =
     c.requires.reading c.requires.going c.need-need.ensures.need (c.from.ensures ∙ c.list_needed-list.ensures) c.index-source.ensures
     (record {
       others = c.look-look.ensures.others;
-      turn = c.look-look.ensures.turn;
+      look = c.look-look.ensures.look;
       waits = c.look-look.ensures.waits;
       said = c.look-look.ensures.answer;
       shown = c.look-look.ensures.shown;
-      took = c.look-look.ensures.took;
+      knows = c.look-look.ensures.knows;
       within = c.look-look.ensures.within;
     }))
     c.answer.ensures.answers c.answer.ensures.run c.answer.ensures.same c.answer.ensures.sources c.answer.ensures.waiting

@@ -7,4 +7,5 @@ returns-clause-joined c = λ i. record {
   pass = (c.join.ensures.pass ∙ (λ j. (sym c.requires.own.own j, joined c.args.hold.now.pass.1 c.args.other.pass.1))) i;
   waiting = record c.args.hold.now.waiting { need = None };
   shown = c.all_shown-hold.ensures i;
+  remembered = c.clear.ensures i;
 }

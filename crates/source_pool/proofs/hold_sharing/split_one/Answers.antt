@@ -8,4 +8,5 @@ returns-clause-given c = λ i. record {
   pass = (c.split.ensures.given ∙ (λ j. (sym c.requires.own.own j, split_off 1 c.args.hold.now.pass.1))) i;
   waiting = no_waiting;
   shown = no_fails;
+  remembered = c.requires.empty i;
 }

@@ -6,6 +6,8 @@ use Rattle.source_pool.specs.declared.hold.Hold.{Hold}
 use Rattle.source_pool.specs.Holds.{SourcePass, no_fails, no_waiting}
 use Rattle.source_pool.specs.HoldSharing.{first_known}
 use Rattle.source_pool.specs.Passes.{Feed}
+use Rattle.source_pool.specs.declared.remembered.Remembered.{Remembered}
+use Rattle.source_pool.specs.Remembering.{nothing}
 use Rattle.source_pool.specs.Sharing.{first_hold, first_feed, IsOpened}
 use Rattle.source_pool.proofs.OpenLaws.{opened_more}
 use Rattle.source_pool.proofs.opening.add.Goals as goal
@@ -24,10 +26,11 @@ opened_pushed counts count pool more_pool table holds more_holds hold feeds more
     (subst (λ x. IsOpened (counts ++ count ∷ []) (pool ++ table ∷ []) (holds ++ hold ∷ []) x) (sym d) more))
 
 -- what is held, and the feeder, of a lock whose first pass was split
-held_first : (table : TableId) (size count : ℕ) (writer given : SourcePass) → writer ≡ (table, first_known size count) → given ≡ (table, split_off (all_parts - 1) writer.1)
-    → record { pass = given; waiting = no_waiting; shown = no_fails } ≡ first_hold table size count
-held_first table size count writer given is split =
-    ap {A = SourcePass} {B = Hold} (λ p. record { pass = p; waiting = no_waiting; shown = no_fails }) (split ∙ ap (λ (w : SourcePass). (table, split_off (all_parts - 1) w.1)) is)
+held_first : (table : TableId) (size count : ℕ) (writer given : SourcePass) (remembered : Remembered) → writer ≡ (table, first_known size count) → given ≡ (table, split_off (all_parts - 1) writer.1)
+    → remembered ≡ nothing → record { pass = given; waiting = no_waiting; shown = no_fails; remembered = remembered } ≡ first_hold table size count
+held_first table size count writer given remembered is split none =
+    ap {A = Remembered} {B = Hold} (λ r. record { pass = given; waiting = no_waiting; shown = no_fails; remembered = r }) none
+    ∙ ap {A = SourcePass} {B = Hold} (λ p. record { pass = p; waiting = no_waiting; shown = no_fails; remembered = nothing }) (split ∙ ap (λ (w : SourcePass). (table, split_off (all_parts - 1) w.1)) is)
 
 fed_first : (table : TableId) (size source count : ℕ) (writer kept : SourcePass) → writer ≡ (table, first_known size count) → kept ≡ (table, without (all_parts - 1) writer.1)
     → source ≡ size → record { source = source; pass = kept } ≡ first_feed table size count
@@ -39,7 +42,7 @@ pub returns-clause-added : goal.returns-clause-added
 returns-clause-added c = λ counts h.
     let at : c.len-source.result ≡ length c.args.opened.now.locks.items = omega (arith, c.len-source.ensures, c.args.opened.now.locks.ok.0) in
     opened_pushed counts c.args.count _ _ c.args.lock _ _ _ _ _ _ c.push_reserved-3.ensures.items c.push_reserved.ensures.items c.push_reserved-2.ensures.items c.requires.count
-    (held_first c.args.lock (length c.args.opened.now.locks.items) c.args.count c.args.writer c.split-pass.result c.requires.pass c.split-pass.ensures.given)
+    (held_first c.args.lock (length c.args.opened.now.locks.items) c.args.count c.args.writer c.split-pass.result c.args.remembered c.requires.pass c.split-pass.ensures.given c.requires.empty)
     (fed_first c.args.lock (length c.args.opened.now.locks.items) c.len-source.result c.args.count c.args.writer c.split-pass.new.pass c.requires.pass c.split-pass.ensures.kept at) h
 
 pub returns-clause-room : goal.returns-clause-room

@@ -4,19 +4,21 @@ use Rattle.atomic_table.specs.Seated.{TableId}
 use Rattle.source_state.specs.State.{IsSound}
 use Rattle.source_pool.specs.declared.hold.Hold.{Hold}
 use Rattle.source_pool.specs.Seen.{state_seen}
+use Rattle.source_pool.specs.Remembering.{Remembers}
 use Rattle.source_pool.specs.Holds.{no_lock, no_hold, IsFree}
-use Rattle.source_pool.specs.Looks.{Answers, Waits, shown_by, TookTurn, IsTurn, IsWithin}
+use Rattle.source_pool.specs.Looks.{Answers, Waits, shown_by, KnowsOn, IsLook, IsWithin}
 use Rattle.source_pool.specs.Passes.{hold_at, IsPassOf, OthersStay}
 use Rattle.source_pool.proofs.HoldLaws.{read_set, others_set, pass_set}
 use Rattle.source_pool.proofs.pool.Pool.look.Goals as goal
 
 -- what a change of what is held of a source leaves of the pass, by the lists of the locks and of what is held
 pass_given : (pool locks : List TableId) (holds items : List Hold) (source : ℕ) (table : TableId) (hold : Hold) → locks ≡ pool → items ≡ holds
-    → IsPassOf pool holds → source < length pool → table ≡ get_or locks source table → IsFree table hold.pass → IsSound (state_seen hold.pass.1) → IsPassOf pool (set items source hold)
-pass_given pool locks holds items source table hold pool_is holds_is h within lock free sound =
+    → IsPassOf pool holds → source < length pool → table ≡ get_or locks source table → IsFree table hold.pass → IsSound (state_seen hold.pass.1)
+    → Remembers hold.pass.1.seen hold.remembered → IsPassOf pool (set items source hold)
+pass_given pool locks holds items source table hold pool_is holds_is h within lock free sound remembers =
     let there : table ≡ get_or pool source table = lock ∙ ap (λ xs. get_or xs source table) pool_is in
     subst (λ xs. IsPassOf pool (set xs source hold)) (sym holds_is)
-    (pass_set pool holds source hold h within (subst (λ t. IsFree t hold.pass) (get_or_read pool source table within there no_lock) free) sound)
+    (pass_set pool holds source hold h within (subst (λ t. IsFree t hold.pass) (get_or_read pool source table within there no_lock) free) sound remembers)
 
 others_given : (holds items : List Hold) (source : ℕ) (hold : Hold) → items ≡ holds → OthersStay source holds (set items source hold)
 others_given holds items source hold holds_is = subst (λ xs. OthersStay source holds (set xs source hold)) (sym holds_is) (others_set holds source hold)
@@ -34,14 +36,14 @@ changed_there P pool holds items source before after holds_is h within held know
 
 pub returns-clause-own : goal.returns-clause-own
 returns-clause-own g c = pass_given c.args.self.now c.self.inside.locks.items c.args.pass.now c.pass.inside.holds.items c.args.source _ _ c.self.view_is c.pass.view_is
-    c.requires.own c.requires.source c.index-lock.ensures c.look_once-answer.ensures.own c.look_once-answer.ensures.sound
+    c.requires.own c.requires.source c.index-lock.ensures c.look_once-answer.ensures.own c.look_once-answer.ensures.sound c.look_once-answer.ensures.remembers
 
 pub returns-clause-others : goal.returns-clause-others
 returns-clause-others g c = others_given c.args.pass.now c.pass.inside.holds.items c.args.source _ c.pass.view_is
 
-pub returns-clause-turn : goal.returns-clause-turn
-returns-clause-turn g c = changed_there (λ before after. IsTurn c.args.need before after c.look_once-answer.result) c.args.self.now c.args.pass.now c.pass.inside.holds.items c.args.source _ _ c.pass.view_is
-    c.requires.own c.requires.source c.index_mut.ensures.value c.look_once-answer.ensures.turn
+pub returns-clause-look : goal.returns-clause-look
+returns-clause-look g c = changed_there (λ before after. IsLook c.args.need before after c.look_once-answer.result) c.args.self.now c.args.pass.now c.pass.inside.holds.items c.args.source _ _ c.pass.view_is
+    c.requires.own c.requires.source c.index_mut.ensures.value c.look_once-answer.ensures.look
 
 pub returns-clause-answer : goal.returns-clause-answer
 returns-clause-answer g c = changed_there (λ before after. Answers c.args.need before after c.look_once-answer.result) c.args.self.now c.args.pass.now c.pass.inside.holds.items c.args.source _ _ c.pass.view_is
@@ -55,10 +57,26 @@ pub returns-clause-shown : goal.returns-clause-shown
 returns-clause-shown g c = changed_there (λ before after. after.shown ≡ shown_by c.look_once-answer.result before.shown) c.args.self.now c.args.pass.now c.pass.inside.holds.items c.args.source _ _ c.pass.view_is
     c.requires.own c.requires.source c.index_mut.ensures.value c.look_once-answer.ensures.shown
 
-pub returns-clause-took : goal.returns-clause-took
-returns-clause-took g c = changed_there (λ before after. TookTurn before.pass.1 after.pass.1) c.args.self.now c.args.pass.now c.pass.inside.holds.items c.args.source _ _ c.pass.view_is
-    c.requires.own c.requires.source c.index_mut.ensures.value c.look_once-answer.ensures.took
+pub returns-clause-knows : goal.returns-clause-knows
+returns-clause-knows g c = changed_there (λ before after. KnowsOn before.pass.1 after.pass.1) c.args.self.now c.args.pass.now c.pass.inside.holds.items c.args.source _ _ c.pass.view_is
+    c.requires.own c.requires.source c.index_mut.ensures.value c.look_once-answer.ensures.knows
 
 pub returns-clause-within : goal.returns-clause-within
 returns-clause-within g c = changed_there (λ before after. IsWithin before → IsWithin after) c.args.self.now c.args.pass.now c.pass.inside.holds.items c.args.source _ _ c.pass.view_is
     c.requires.own c.requires.source c.index_mut.ensures.value c.look_once-answer.ensures.within
+
+-- what the pass keeps of the source is known of what is held of it
+kept_there : (P : Hold → Type 0) (pool : List TableId) (holds items : List Hold) (source : ℕ) (hold : Hold) → items ≡ holds → IsPassOf pool holds
+    → source < length pool → hold ≡ get_or items source hold → P (hold_at holds source) → P hold
+kept_there P pool holds items source hold holds_is h within held known =
+    let lt : source < length holds = subst (λ n. source < n) (sym h.size) within in
+    let there : hold ≡ get_or holds source hold = held ∙ ap (λ xs. get_or xs source hold) holds_is in
+    subst P (sym (get_or_read holds source hold lt there no_hold)) known
+
+pub look_once-answer-requires-clause-sound : goal.look_once-answer-requires-clause-sound
+look_once-answer-requires-clause-sound g c = kept_there (λ hold. IsSound (state_seen hold.pass.1)) c.args.self.now c.args.pass.now c.pass.inside.holds.items c.args.source _ c.pass.view_is
+    c.requires.own c.requires.source c.index_mut.ensures.value (c.requires.own.sound c.args.source c.requires.source)
+
+pub look_once-answer-requires-clause-remembers : goal.look_once-answer-requires-clause-remembers
+look_once-answer-requires-clause-remembers g c = kept_there (λ hold. Remembers hold.pass.1.seen hold.remembered) c.args.self.now c.args.pass.now c.pass.inside.holds.items
+    c.args.source _ c.pass.view_is c.requires.own c.requires.source c.index_mut.ensures.value (c.requires.own.remembers c.args.source c.requires.source)
