@@ -5,4 +5,5 @@ pub mod TableLaws
 mod Readying
 mod OneAnswers
 mod Summing
+mod ReadsLaws
 mod Bounds

@@ -16,7 +16,7 @@ pub use bulking::bulk;
 pub use input::BulkInput;
 pub use limits::Memory;
 pub use made_source::MadeSource;
-pub use run::run_bulk;
+pub use run::{run_bulk, run_over};
 pub use slots::{let_go, table_slots};
 pub use sums::BulkSums;
 pub use writing::write_sums;

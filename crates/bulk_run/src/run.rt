@@ -5,6 +5,7 @@ ghost use Rattle.limits.specs.Ranges.{AreSettings};
 ghost use Rattle.bulk_run.specs.Held.{fresh_slot};
 ghost use Rattle.bulk_run.specs.Sums.{IsInput, table_of, bulk_sums};
 ghost use Rattle.bulk_run.specs.Endings.{AreMadeReady, AllEndInOne};
+ghost use Rattle.bulk_run.specs.Reads.{AreReadSparingly};
 
 use super::Memory;
 use super::input::BulkInput;
@@ -12,7 +13,9 @@ use super::made_source::MadeSource;
 use super::readies::made_readies;
 use super::slots::{let_go, table_slots};
 use super::sums::{BulkSums, sums_of};
-use batch_result::told_tables_give_the_one_ending;
+use batch_result::{
+    told_tables_bound_a_cut_batch, told_tables_bound_the_uses, told_tables_give_the_one_ending,
+};
 use batch_run::{Ended, Settings, run_all};
 use fetcher::Slot;
 use query_core::Ready;
@@ -70,8 +73,14 @@ fn list_counts(alloc: Global, input: BulkInput) -> Result<Vec<u32>, Memory>
     Ok(counts)
 }
 
-/// Makes the queries and runs them over the sources of the table.
-fn run_over<W: Threads + Wait + Sync>(
+/// Makes the queries and runs them over the sources of the table, for who keeps these to see what was read. Whether memory was wanting or not, no
+/// source gives a row beyond the reach of the greatest depth to which the one run of a query reads it, nor more grades than these runs make random
+/// accesses to it.
+///
+/// # Errors
+///
+/// [`Memory`] where no memory was left.
+pub fn run_over<W: Threads + Wait + Sync>(
     rt: &W,
     alloc: Global,
     input: BulkInput,
@@ -81,7 +90,8 @@ fn run_over<W: Threads + Wait + Sync>(
     requires input { IsInput input }
     requires settings { AreSettings settings }
     requires slots { slots.old.items ≡ map fresh_slot (table_of input) }
-    ensures { IfOk result (λ endings. AllEndInOne input endings.items) }
+    ensures read { AreReadSparingly input settings slots.new.items }
+    ensures ended { IfOk result (λ endings. AllEndInOne input endings.items) }
 {
     let counts = list_counts(alloc, input)?;
     let readies = made_readies(alloc, input)?;
@@ -103,8 +113,12 @@ fn run_queries<W: Threads + Wait + Sync>(
     requires counts { counts.now ≡ replicate input.lists input.count }
     requires readies { AreMadeReady input readies.now }
     requires slots { slots.old.items ≡ map fresh_slot (table_of input) }
-    ensures { IfOk result (λ endings. AllEndInOne input endings.items) }
+    ensures read { AreReadSparingly input settings slots.new.items }
+    ensures ended { IfOk result (λ endings. AllEndInOne input endings.items) }
 {
+    // Made sources tell a table: by these laws no more is read of it than by the one runs of the queries, where memory is wanting too.
+    told_tables_bound_the_uses();
+    told_tables_bound_a_cut_batch();
     let Ok(batch) = run_all(rt, alloc, slots, counts, readies, settings) else {
         return Err(Memory);
     };

@@ -8,6 +8,8 @@ pub mod Readies
 pub mod Writable
 pub mod Whole
 pub mod Running
+-- Lemmas on runs for which memory was wanting.
+pub mod Cuts
 pub mod Failing
 -- Lemmas on runs of query lines.
 mod LineTexts

@@ -132,7 +132,7 @@ ends_unread s text c read.Long stands stops nothing = (stands, record { given = 
 ends_unread s text c read.Memory stands stops nothing = (inr (inl (stands, record { given = stops.0; faults = stops.1 })), nothing)
 
 -- a run ends so whose lines were run, or should have been, when memory was wanting
-pub ends_left : (s : Settings) (text : List ℕ) (c : Call) → LinesLeft text c → WroteNothing c → RunsOverCatalog s text c Memory
+pub ends_left : (s : Settings) (text : List ℕ) (c : Call) → LinesLeft s text c → WroteNothing c → RunsOverCatalog s text c Memory
 ends_left s text c left nothing = (inr (inr left), nothing)
 
 -- a reply to lines that was written whole ends with its status

@@ -8,7 +8,8 @@ use Rattle.limits.specs.declared.settings.Settings.{Settings}
 use Rattle.call_ends.specs.Calls.{Call, LeftAlone, KeepsShelf, ReadSome, ReadWhole, ReadFailed, ReadLong, WroteNothing, WroteWhole, WroteFront}
 use Rattle.call_ends.specs.Shelves.{Shelf, AsksText, GivesText, TextFailed}
 use Rattle.catalog_run.specs.Taking.{TakesSources}
-use Rattle.catalog_run.specs.Running.{RefusesCatalog, RepliesToLines}
+use Rattle.catalog_run.specs.Cut.{IsCutRun}
+use Rattle.catalog_run.specs.Running.{RefusesCatalog, RepliesToLines, lines_run}
 use Rattle.call_ends.specs.declared.status.Status.{Status}
 use Rattle.call_ends.specs.declared.status.Status.TheVariants.{Done, Partial, BadCatalog, LongInput, Memory}
 use Rattle.call_ends.specs.declared.status.Status.TheVariants.{ReadFault, WriteFault, OpenFault}
@@ -31,17 +32,19 @@ pub record LinesReplied (settings : Settings) (text : List ℕ) (c : Call) (stat
   pub read : ReadWhole c bytes
   pub replies : RepliesToLines settings text bytes c.before.shelf c.after.shelf status said
 
--- the text is a catalog, and the input was read to its end: no more was done than that sources were taken for its lines and put back
-pub record LinesLeft (text : List ℕ) (c : Call) : Type 0 where
+-- the text is a catalog, and the input was read to its end: no more was done than that sources were taken for its lines, read as a run reads them for which
+-- memory was wanting, and put back
+pub record LinesLeft (settings : Settings) (text : List ℕ) (c : Call) : Type 0 where
   pub catalog : List Entry
   pub is : IsCatalog (records_of text) catalog
   pub bytes : List ℕ
   pub read : ReadWhole c bytes
   pub takes : TakesSources catalog (lines bytes) c.before.shelf c.after.shelf
+  pub cut : IsCutRun (lines_run settings catalog (lines bytes) c.before.shelf c.after.shelf)
 
 -- where memory may be wanting: before the text is known to be a catalog, before the input has ended, or when its lines are run
-abbrev pub WantsMemory : List ℕ → Call → Type 0
-WantsMemory text c = (KeepsShelf c × LeftAlone c) ⊎ ((CatalogStands text c × ReadSome c) ⊎ LinesLeft text c)
+abbrev pub WantsMemory : Settings → List ℕ → Call → Type 0
+WantsMemory s text c = (KeepsShelf c × LeftAlone c) ⊎ ((CatalogStands text c × ReadSome c) ⊎ LinesLeft s text c)
 
 -- how query lines end over the catalog that is this text, once the shelf gave it
 abbrev pub RunsOverCatalog : Settings → List ℕ → Call → Status → Type 0
@@ -52,7 +55,7 @@ RunsOverCatalog s text c WriteFault =
     (said : List ℕ) × (CatalogRefused text c said ⊎ ((status : Status) × LinesReplied s text c status said)) × WroteFront c said
 RunsOverCatalog s text c ReadFault = CatalogStands text c × ReadFailed c × WroteNothing c
 RunsOverCatalog s text c LongInput = CatalogStands text c × ReadLong c × WroteNothing c
-RunsOverCatalog s text c Memory = WantsMemory text c × WroteNothing c
+RunsOverCatalog s text c Memory = WantsMemory s text c × WroteNothing c
 RunsOverCatalog _ _ _ _ = ⊥
 
 -- what is left of a call from the moment on at which the shelf stood so

@@ -40,6 +40,10 @@ is_answer (Refused refusal) = false
 abbrev pub run_status : List LineOutcome → Status
 run_status outcomes = if list_all (λ o. is_answer o.outcome) outcomes then Done else Partial
 
+-- the text of the outcome of the line with this number
+abbrev pub line_text : ℕ → LineOutcome → List ℕ
+line_text number o = outcome_text number o.query o.count o.versions o.outcome
+
 -- the texts of the outcomes of lines, one after another; the lines are numbered from this number on
 abbrev pub outcomes_text : ℕ → List LineOutcome → List ℕ
 outcomes_text number [] = []

@@ -39,7 +39,7 @@ use tk_io::{Intake, Put, ReadError, Sink, Writer, read_text};
 /// - `OpenFault`: the shelf failed to give the catalog's text; nothing was read or written.
 /// - `ReadFault`, `LongInput`: a read of the input failed, or it has more bytes than the limit; nothing was written.
 /// - `WriteFault`: a write failed; a front of the text was written.
-/// - `Memory`: no memory was left; nothing was written.
+/// - `Memory`: no memory was left; nothing was written. What was read of the sources by then is within the bounds of a run that ends.
 ///
 /// No other status comes.
 pub fn run<W: Threads + Wait + Sync, H: Shelf, R: Intake, K: Sink>(
@@ -82,7 +82,7 @@ pub fn run<W: Threads + Wait + Sync, H: Shelf, R: Intake, K: Sink>(
     let Ok(outcomes) = ran else {
         return Status::Memory;
     };
-    let status = write_outcomes(out, &outcomes);
+    let status = write_outcomes(rt, alloc, out, &outcomes, options.settings.workers);
     let_go(outcomes);
     status
 }

@@ -7,7 +7,9 @@
 mod command;
 mod line_outcomes;
 mod lines;
+mod made_text;
 mod merging;
+mod texts;
 
 pub use batch_run::Settings;
 pub use catalog_open::Memory;

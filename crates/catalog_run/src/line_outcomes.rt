@@ -1,52 +1,37 @@
 //! The outcomes of query lines as one text, and the status that they come to.
 
 ghost use Rattle.std.specs.Prelude.{◌≡◌, ◌≤◌, All};
-ghost use Rattle.tk_io.specs.Pieces.{Puts};
 ghost use Rattle.line_outcome.specs.LineOutcomes.{CanBeWritten};
 ghost use Rattle.call_ends.specs.Calls.{output_as};
 ghost use Rattle.call_ends.specs.Ends.{Says};
 ghost use Rattle.catalog_run.specs.Running.{is_answer, run_status, outcomes_text};
 
+use super::texts::put_outcomes;
 use call_ends::{Status, ended};
-use cert_text::{Outcome, put_outcome};
+use cert_text::Outcome;
 use query_admission::LineOutcome;
-use tk_io::{Put, Sink, Writer};
-
-/// The number of the first query line of an input.
-const FIRST_LINE: u64 = 1;
+use std::alloc::Global;
+use std::thread::Threads;
+use tk_io::{Sink, Writer};
 
 /// Writes the outcomes of lines, one after another, and ends done exactly where each is an answer, or
-/// with a write fault.
-pub(crate) fn write_outcomes<K: Sink>(out: &mut K, outcomes: &[LineOutcome]) -> Status
+/// with a write fault. Where there are several workers, long texts are made by as many threads before they are written.
+pub(crate) fn write_outcomes<W: Threads + Sync, K: Sink>(
+    rt: &W,
+    alloc: Global,
+    out: &mut K,
+    outcomes: &[LineOutcome],
+    workers: u32,
+) -> Status
     requires { All CanBeWritten outcomes.now }
     ensures counts { K.faults out.old ≤ K.faults out.new }
     ensures says { Says (output_as K.held K.faults out.old) (output_as K.held K.faults out.new)
         (outcomes_text 1 outcomes.now) (run_status outcomes.now) result }
 {
     let mut writer = Writer::make(out);
-    put_outcomes(&mut writer, outcomes);
+    put_outcomes(rt, alloc, &mut writer, outcomes, workers);
     let written = writer.end();
     ended(written, run_status(outcomes))
-}
-
-/// Puts the texts of the outcomes of lines behind the bytes that wait.
-fn put_outcomes<P: Put>(out: &mut P, outcomes: &[LineOutcome])
-    requires { All CanBeWritten outcomes.now }
-    ensures { Puts (P.at out.old) (P.at out.new)
-        (outcomes_text 1 outcomes.now) }
-{
-    let mut number = FIRST_LINE;
-    for line in outcomes {
-        put_outcome(
-            out,
-            number,
-            line.query.as_ref(),
-            line.count,
-            line.versions.as_slice(),
-            &line.outcome,
-        );
-        number += 1;
-    }
 }
 
 /// Whether an outcome is an answer.

@@ -1,6 +1,6 @@
 //! Query lines over a catalog.
 
-ghost use Rattle.std.specs.Prelude.{◌≡◌, ◌≤◌, [], ℕ, Bool, List, Option, All, length, map, IfOk, OnOk};
+ghost use Rattle.std.specs.Prelude.{◌≡◌, ◌≤◌, ◌<◌, [], ℕ, Bool, List, Option, All, length, map, IfOk, OnErr, OnOk};
 ghost use Rattle.ranked_list.specs.declared.row.Row.{Row};
 ghost use Rattle.source_api.specs.declared.counts.Counts.{Counts};
 ghost use Rattle.source_api.specs.Places.{SameAtEach};
@@ -11,6 +11,7 @@ ghost use Rattle.catalog_open.specs.Slots.{IsIdle, of_slot, sources_in};
 ghost use Rattle.catalog_open.specs.Entries.{IsMarked};
 ghost use Rattle.catalog_open.specs.Openings.{AreOpened, Counted, GivesNothing, IsKnownAt, IsUnread, KeepsOthers, Moves, Used};
 ghost use Rattle.catalog_run.specs.Runs.{AsksWantedAtMostOnce, AsksWantedOnce, IsRun, RanOver};
+ghost use Rattle.catalog_run.specs.Cut.{CutOver, IsCutRun};
 ghost use Rattle.line_outcome.specs.LineOutcomes.{CanBeWritten};
 
 use super::Memory;
@@ -34,7 +35,8 @@ use std::thread::Threads;
 /// opened. A source that fails at this, or is answered by garbled data, isn't open. Then the lines are
 /// admitted, and the queries that are ready run at the same time, over one state of each source: as many
 /// workers as the settings say, and beside them one fetcher a source. A call may wait for ever. At last the
-/// sources are put back, where memory is refused too: each source that was taken was put back once.
+/// sources are put back, where memory is refused too: each source that was taken was put back once. What was read of them by then is
+/// within the bounds of a run that ends.
 ///
 /// *Cost*: `read_lines`, `mark_wanted`, `open_wanted`, `admit_all`, `run_all`, one outcome for each line, `put_back_all`.
 pub fn run_lines<W: Threads + Wait + Sync, H: Shelf>(
@@ -61,6 +63,15 @@ pub fn run_lines<W: Threads + Wait + Sync, H: Shelf>(
       before = H.at shelf.old;
       after = H.at shelf.new;
     }) outcomes.items) }
+    ensures cut { OnErr result (IsCutRun (record {
+      catalog = catalog.now;
+      lines = map (λ line. line.now) lines.now;
+      lists = H.lists shelf.old;
+      versions = H.versions shelf.old;
+      settings = settings;
+      before = H.at shelf.old;
+      after = H.at shelf.new;
+    })) }
     ensures writable { IfOk result (λ outcomes. All CanBeWritten outcomes.items) }
 {
     let mut opened = Opened::make(alloc);
@@ -112,6 +123,12 @@ fn open_and_run<W: Threads + Wait + Sync, H: Shelf>(
         (sources_in H.Item.list H.Item.at_hand slots.new.items opened.new.places.items opened.new.counts.items)
         begun (map (of_slot H.Item.counts) slots.new.items) (view_over catalog.now opened.new.openings.items nothing_told)
         (map (λ line. line.now) lines.now) outcomes.items) }
+    ensures cut { OnErr result ((begun : List Counts) × All IsUnread begun × (cut : CutOver settings
+        (sources_in H.Item.list H.Item.at_hand slots.new.items opened.new.places.items opened.new.counts.items)
+        begun (map (of_slot H.Item.counts) slots.new.items) (view_over catalog.now opened.new.openings.items nothing_told)
+        (map (λ line. line.now) lines.now))
+        × (0 < cut.admitted → (length opened.new.openings.items ≡ length catalog.now)
+        × AsksWantedOnce catalog.now (map (λ line. line.now) lines.now) (H.at shelf.old) (H.at shelf.new))) }
     ensures writable { IfOk result (λ outcomes. All CanBeWritten outcomes.items) }
 {
     let Ok(read) = read_lines(alloc, lines) else {
@@ -156,6 +173,10 @@ fn run_opened<W: Threads + Wait + Sync, S: Source>(
         (sources_in S.list S.at_hand slots.old.items opened.now.places.items opened.now.counts.items)
         (map (of_slot S.counts) slots.old.items) (map (of_slot S.counts) slots.new.items) (view_over catalog.now opened.now.openings.items nothing_told)
         lines outcomes.items) }
+    ensures cut { (lines : List (List ℕ)) → AreRead lines read.items → OnErr result (CutOver settings
+        (sources_in S.list S.at_hand slots.old.items opened.now.places.items opened.now.counts.items)
+        (map (of_slot S.counts) slots.old.items) (map (of_slot S.counts) slots.new.items) (view_over catalog.now opened.now.openings.items nothing_told)
+        lines) }
     ensures writable { IfOk result (λ outcomes. All CanBeWritten outcomes.items) }
 {
     // Serves the prover alone: there are no more sources than entries of a catalog, so that their number is small.

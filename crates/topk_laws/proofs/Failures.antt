@@ -5,7 +5,7 @@ use Rattle.std.specs.Option.{option_and_then}
 use Rattle.std.specs.List.{AllByRecursion}
 use Rattle.std.proofs.lemmas.Bool.{cases_lt}
 use Rattle.std.proofs.lemmas.Option.{same_Some}
-use Rattle.std.proofs.lemmas.List.{get_or_past, length-map}
+use Rattle.std.proofs.lemmas.List.{length-map}
 use Rattle.std.proofs.lemmas.List.Elements.{All-from_recursion}
 use Rattle.topk_theory.proofs.AgreementLists.{contains_here, contains_there, contains_at, member_of_all}
 use Rattle.machine_base.specs.declared.answer.Answer.{Answer}
@@ -47,7 +47,7 @@ use Rattle.catalog_open.specs.declared.opened.Opening.TheVariants.{Closed, Open}
 use Rattle.catalog_open.specs.Views.{entry_named, said_of, listed_at, view_over, nothing_told}
 use Rattle.catalog_open.specs.Entries.{entry_at, opening_at}
 use Rattle.catalog_open.specs.Wanted.{IsWanted}
-use Rattle.catalog_open.specs.Openings.{IsOpening, IsSource, TroubleAt}
+use Rattle.catalog_open.specs.Openings.{IsOpening, TroubleAt}
 use Rattle.catalog_open.proofs.Marking.{places_within}
 use Rattle.query_admission.specs.declared.line_outcome.LineOutcome.{LineOutcome}
 use Rattle.line_outcome.specs.Outcomes.{ended_outcome}
@@ -58,6 +58,7 @@ use Rattle.topk_laws.proofs.Alike.{first_is_many}
 use Rattle.topk_laws.proofs.Becoming.{failed_rose_at, garbled_rose_at, moved_rose_at, served_all, text_for}
 use Rattle.catalog_run.proofs.Failing.{refused_there}
 use Rattle.catalog_run.proofs.Readies.{ready_versions}
+use Rattle.topk_laws.proofs.OpenedRuns.{of_run, stood_open}
 use Rattle.topk_laws.proofs.ToldLists.{known_places, named_wanted}
 
 -- the place of a list of a query
@@ -118,9 +119,6 @@ answered_refused answer refusal e = cc
 
 many_is_other : Cause.many_queries ≡ Cause.not_opened → ⊥
 many_is_other e = cc
-
-closed_open : {size source version : ℕ} → Closed ≡ Open size source version → ⊥
-closed_open e = cc
 
 -- a refusal of a list comes with a query
 some_query : (query : Option Query) (list : ℕ) → All (λ l. l < length (names_of query)) (refused_lists (NotOpened list)) → (q : Query) × (query ≡ Some q)
@@ -210,20 +208,7 @@ module _ (r : CatalogRun) (outcomes : List LineOutcome) (run : IsRun r outcomes)
 
   -- a list that states a size is that of the open source that stands at its place
   pub stood : (place n : ℕ) → (says place).size ≡ Some n → slice_index_or run.sources.places (says place).source 0 ≡ place
-  stood place n sized = by (opening_at run.openings place) refl sized
-    where
-      by : (o : Opening) → opening_at run.openings place ≡ o → (said_of (entry_at r.catalog place) o).size ≡ Some n
-          → slice_index_or run.sources.places (said_of (entry_at r.catalog place) o).source 0 ≡ place
-      by Closed is sized = absurd cc
-      by (Open size source version) is sized =
-          let within : place < length run.openings = elim (cases_lt place (length run.openings)) [
-            | inl inside ↦ inside
-            | inr past ↦ absurd (closed_open (sym (get_or_past run.openings place Closed past) ∙ is))
-          ] in
-          let opening : IsOpening r.lists r.versions r.catalog run.sources (IsWanted r.catalog r.lines) r.before run.mid place (Open size source version) =
-          subst (IsOpening r.lists r.versions r.catalog run.sources (IsWanted r.catalog r.lines) r.before run.mid place) is (run.opened.each place within) in
-          let source_is : IsSource r.lists r.versions r.catalog run.sources place size source version = opening.1 in
-          source_is.stands
+  stood place n sized = stood_open r (of_run r outcomes run) place n sized
 
   -- the list of a query that ran
   pub ran_at : (at : ℕ) (bytes : List ℕ) (q : Inquiry) (ready : ReadyQuery) (list : ℕ) → IsAdmitted (line_over U (at + 1) bytes) ready → IsOf ready q

@@ -14,12 +14,15 @@ use Rattle.limits.specs.declared.settings.Settings.{Settings}
 use Rattle.batch_result.specs.Numbered.{counts_at}
 use Rattle.batch_result.specs.declared.batch.Use.{Use}
 use Rattle.batch_result.specs.Batches.{size_at, use_at}
+use Rattle.batch_result.specs.Cut.{begun as begun_of}
 use Rattle.batch_result.specs.Using.{IsNamedBy, IsUsed}
 use Rattle.catalog_open.specs.Openings.{IsUnread, added_all, put_back, used_at}
 use Rattle.query_admission.specs.declared.line_outcome.LineOutcome.{LineOutcome}
 use Rattle.catalog_run.specs.Runs.{CatalogRun, IsRun}
+use Rattle.catalog_run.specs.Cut.{IsCutRun}
 use Rattle.topk_laws.specs.Giving.{GaveWhatIsAsked, RoseByGiven}
 use Rattle.topk_laws.proofs.FewLines.{sum_turned}
+use Rattle.topk_laws.proofs.OpenedRuns.{OpenedRun}
 
 -- a count of what was given, from none on
 pub given_from_none : (number most before now : ℕ) → before ≡ 0 → raised now 0 ≡ raised before number → number ≤ most → most ≤ 200000 → now ≤ most
@@ -48,6 +51,19 @@ gave_used settings queries source size s before now used unread count sound is =
       grades = given_from_none used.grades (length s.asks) before.grades_given now.grades_given unread.grades is.grades (omega (arith, once, asks))
           (omega (arith, fits, small));
     }
+
+pub cut_gave_what_is_asked : (r : CatalogRun) (cut : IsCutRun r) → (source : ℕ) → source < length cut.sources.places
+    → GaveWhatIsAsked r.settings (begun_of cut.read.cut.stood) source (size_at cut.sources.counts source) (counts_at cut.now source)
+cut_gave_what_is_asked r cut source within =
+    let b = cut.read.cut in
+    let counts_long = cut.opened.many_counts in
+    let told_long = cut.opened.many_told in
+    let begun_long = cut.read.many in
+    let sized : source < length cut.sources.counts = omega (arith, within, counts_long) in
+    let there : source < length cut.begun = omega (arith, within, told_long, begun_long) in
+    let closing = b.read.closing source sized in
+    gave_used r.settings (begun_of b.stood) source (size_at cut.sources.counts source) (state_at b.states source) (counts_at cut.begun source)
+    (counts_at cut.now source) (use_at b.uses source) (cut.unread source no_counts there) closing.count closing.sound (b.read.used source sized)
 
 pub gave_what_is_asked : (r : CatalogRun) (outcomes : List LineOutcome) (run : IsRun r outcomes) → (source : ℕ) → source < length run.sources.places
     → GaveWhatIsAsked r.settings run.ran.ran.queries source (size_at run.sources.counts source) (counts_at run.now source)
@@ -83,13 +99,13 @@ grades_sum c (x ∷ xs) =
 went_up : (number before mid after : ℕ) → raised mid 0 ≡ raised before 0 → min after (2 ^ 64 - 1) ≡ min (mid + number) (2 ^ 64 - 1) → WentUp number before after
 went_up number before mid after idle up = omega (arith, idle, up)
 
-pub rose_by_given : (r : CatalogRun) (outcomes : List LineOutcome) (run : IsRun r outcomes) → (place : List ℕ)
-    → RoseByGiven (r.before place) (r.after place) (used_at place (put_back r.catalog run.sources.places run.now))
-rose_by_given r outcomes run place =
-    let used = put_back r.catalog run.sources.places run.now in
-    let mid = (run.mid place).sources in
-    let after_is = run.back.sources place in
-    let idle = run.idle place in
+pub rose_by_given : (r : CatalogRun) (o : OpenedRun r) → (place : List ℕ)
+    → RoseByGiven (r.before place) (r.after place) (used_at place (put_back r.catalog o.sources.places o.now))
+rose_by_given r o place =
+    let used = put_back r.catalog o.sources.places o.now in
+    let mid = (o.mid place).sources in
+    let after_is = o.back.sources place in
+    let idle = o.idle place in
     record {
       rows = went_up (sum_by (λ (c : Counts). c.rows_given) (used_at place used)) (r.before place).sources.rows_given mid.rows_given (r.after place).sources.rows_given idle.rows
           (ap (λ (c : Counts). min c.rows_given (2 ^ 64 - 1)) after_is ∙ rows_sum mid (used_at place (reverse used))

@@ -2,6 +2,7 @@
 mod ReadLaws
 -- Lemmas on the outcomes of lines, by what their sources told and counted.
 pub mod Alike
+pub mod OpenedRuns
 pub mod ToldLists
 pub mod Becoming
 pub mod Failures

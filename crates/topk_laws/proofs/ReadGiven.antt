@@ -1,6 +1,7 @@
 -- The open sources of a run gave no more than its lines read of them.
-use Rattle.std.proofs.Common.{◌≡◌, ◌≤◌, ◌<◌, ◌+◌, ◌-◌, ◌*◌, ◌/◌, inl, inr, ℕ, cond, min, Some, List, length, map, All, sym, subst, arith, le_trans}
+use Rattle.std.proofs.Common.{◌≡◌, ◌≤◌, ◌<◌, ◌+◌, ◌-◌, ◌*◌, ◌/◌, inl, inr, ℕ, cond, min, Some, List, [], ◌∷◌, length, map, take, All, sym, subst, arith, le_trans}
 use Rattle.std.specs.List.{AllZip}
+use Rattle.std.proofs.lemmas.List.Elements.{All-nil}
 use Rattle.std.proofs.lemmas.Bool.{cases_lt}
 use Rattle.std.proofs.lemmas.Bool.Decides.{eqb_tells}
 use Rattle.ranked_list.specs.declared.row.Row.{Row}
@@ -16,20 +17,27 @@ use Rattle.fetcher.proofs.ReachLaws.{reach_more, reach_within}
 use Rattle.limits.specs.declared.settings.Settings.{Settings}
 use Rattle.batch_result.specs.Account.{IsAnsweredOf, IsWithin, Reading, deepest, one_readings, printed_readings}
 use Rattle.batch_result.specs.Batches.{BatchRun, BatchState, IsBatch, size_at, use_at}
+use Rattle.batch_result.specs.Cut.{IsCut, begun as begun_of}
 use Rattle.batch_result.specs.Numbered.{counts_at}
 use Rattle.batch_result.specs.Tables.{lists_for}
 use Rattle.batch_result.specs.Using.{IsUsed}
 use Rattle.batch_result.specs.declared.batch.Use.{Use}
+use Rattle.catalog_open.specs.declared.admissions.Stage.{Stage}
+use Rattle.catalog_open.specs.Admissions.{AreAdmitted}
 use Rattle.catalog_open.specs.Openings.{IsUnread}
 use Rattle.catalog_open.specs.Views.{nothing_told, view_over}
+use Rattle.catalog_open.specs.Wanted.{IsWanted}
 use Rattle.catalog_run.specs.OpenSources.{batch_over}
 use Rattle.catalog_run.specs.Runs.{CatalogRun, IsReadyOf, IsRun}
+use Rattle.catalog_run.specs.Cut.{IsCutRun}
 use Rattle.query_admission.specs.declared.line_outcome.LineOutcome.{LineOutcome}
-use Rattle.topk_laws.specs.Giving.{GaveSparingly, GaveWhatIsRead, LinesHaveTables}
+use Rattle.query_admission.specs.View.{View}
+use Rattle.topk_laws.specs.Giving.{CutLinesHaveTables, GaveSparingly, GaveWhatIsRead, HadGivenSparingly, LinesHaveTables}
 use Rattle.topk_laws.specs.ToldTables.{ShelfTellsTables}
-use Rattle.topk_laws.proofs.ToldLists.{are_told, has_lists, lists_told}
-use Rattle.topk_laws.proofs.Given.{gave_what_is_asked, given_from_none}
-use Rattle.topk_laws.proofs.Unread.{GradesAloneGiveNoRow, gives_no_row}
+use Rattle.topk_laws.proofs.OpenedRuns.{cut_own, of_cut}
+use Rattle.topk_laws.proofs.ToldLists.{are_read, are_told, has_lists, has_read, lists_read, lists_told, wanted_within}
+use Rattle.topk_laws.proofs.Given.{cut_gave_what_is_asked, gave_what_is_asked, given_from_none}
+use Rattle.topk_laws.proofs.Unread.{CutGradesAloneGiveNoRow, GradesAloneGiveNoRow, cut_gives_no_row, gives_no_row}
 
 -- the laws of batches, as these lemmas take them
 abbrev pub OneRunsBound : Type 0
@@ -43,6 +51,12 @@ AnswersBound =
     (run : BatchRun) (batch : BatchState) → IsBatch run batch → (source : ℕ) → source < length run.sizes
     → AllZip (IsAnsweredOf source) run.readies batch.endings
     → IsWithin run.settings (size_at run.sizes source) source (printed_readings run.readies batch.endings) (use_at batch.uses source)
+
+abbrev pub CutRunsBound : Type 0
+CutRunsBound =
+    (run : BatchRun) (cut : IsCut run) (lists : List (List Row)) → run.told ≡ map Some lists
+    → All (λ ready. IsTable ready.count (lists_for lists ready)) run.readies → (source : ℕ) → source < length run.sizes
+    → IsWithin run.settings (size_at run.sizes source) source (one_readings lists run.readies) (use_at cut.uses source)
 
 -- pages of no rows reach nowhere
 reach_zero : (ahead count w : ℕ) → reach_of w 0 ahead count ≤ 0
@@ -64,7 +78,7 @@ reach_rises page ahead count w v l = elim (cases_lt 0 page) [
 ]
 
 -- by what was used of a source that had given nothing
-gave_read : (settings : Settings) (queries : List Inquiry) (source size : ℕ) (readings : List Reading) (s : State) (before now : Counts) (used : Use)
+pub gave_read : (settings : Settings) (queries : List Inquiry) (source size : ℕ) (readings : List Reading) (s : State) (before now : Counts) (used : Use)
     → IsUnread before → s.count ≡ size → (sound : IsSound s) → IsUsed settings queries source s before now used → IsWithin settings size source readings used
     → GaveWhatIsRead settings readings source size now
 gave_read settings queries source size readings s before now used unread count sound is within =
@@ -104,13 +118,34 @@ gave_sparingly one_runs answers no_row r outcomes run source within =
     let over : BatchRun = batch_over r.settings run.sources run.begun run.now run.ran.readies in
     record {
       asked = gave_what_is_asked r outcomes run source within;
-      unread = λ none. gives_no_row r outcomes run no_row source within none;
+      unread = λ none. gives_no_row no_row r outcomes run source within none;
       read = λ lists has.
           gave_within r outcomes run (one_readings lists run.ran.readies) source within
           (λ sized. one_runs over run.ran.batch run.ran.ran lists has.told has.tables source sized);
       answered = λ answered.
           gave_within r outcomes run (printed_readings run.ran.readies run.ran.batch.endings) source within
           (λ sized. answers over run.ran.batch run.ran.ran source sized answered);
+    }
+
+-- the same where memory was wanting
+pub cut_gave_sparingly : CutRunsBound → CutGradesAloneGiveNoRow → (r : CatalogRun) (cut : IsCutRun r) (source : ℕ) → source < length cut.sources.places
+    → HadGivenSparingly r cut source (size_at cut.sources.counts source) (counts_at cut.now source)
+cut_gave_sparingly bound no_row r cut source within =
+    let b = cut.read.cut in
+    let counts_long = cut.opened.many_counts in
+    let told_long = cut.opened.many_told in
+    let begun_long = cut.read.many in
+    let sized : source < length cut.sources.counts = omega (arith, within, counts_long) in
+    let there : source < length cut.begun = omega (arith, within, told_long, begun_long) in
+    let closing = b.read.closing source sized in
+    let over : BatchRun = batch_over r.settings cut.sources cut.begun cut.now cut.read.readies in
+    record {
+      asked = cut_gave_what_is_asked r cut source within;
+      unread = λ none. cut_gives_no_row no_row r cut source within none;
+      read = λ lists has.
+          gave_read r.settings (begun_of b.stood) source (size_at cut.sources.counts source) (one_readings lists cut.read.readies) (state_at b.states source)
+          (counts_at cut.begun source) (counts_at cut.now source) (use_at b.uses source) (cut.unread source no_counts there) closing.count closing.sound
+          (b.read.used source sized) (bound over b lists has.told has.tables source sized);
     }
 
 -- where the shelf tells tables and nothing fails, the sources tell lists that form tables for the lines that ran
@@ -125,4 +160,36 @@ lines_have_tables r outcomes run tells =
           let own = member_of_all (IsReadyOf (view_over r.catalog run.openings nothing_told) r.lines) run.ran.readies ready run.ran.own c in
           let has = has_lists r outcomes run tells own.at own.bytes ready own.line own.admitted in
           subst (IsTable ready.count) has.is has.table);
+    }
+
+-- so they do where memory was wanting
+cut_every : (r : CatalogRun) (cut : IsCutRun r) → 0 < cut.read.admitted → (place : ℕ) → IsWanted r.catalog r.lines place → place < length cut.openings
+cut_every r cut some place wanted =
+    let inside = wanted_within r place wanted in
+    let all = (cut.first some).0 in
+    omega (arith, inside, all)
+
+none_ready : (view : View) (number : ℕ) (readies : List ReadyQuery) (stages : List Stage) → AreAdmitted view number [] stages readies → readies ≡ []
+none_ready view number readies [] are = are
+none_ready view number readies (stage ∷ stages) are = absurd are
+
+pub cut_lines_have_tables : (r : CatalogRun) (cut : IsCutRun r) (tells : ShelfTellsTables r) → CutLinesHaveTables r cut (lists_read r (of_cut r cut) tells)
+cut_lines_have_tables r cut tells =
+    let lists = lists_read r (of_cut r cut) tells in
+    let V = view_over r.catalog cut.openings nothing_told in
+    let Tabled = λ (ready : ReadyQuery). IsTable ready.count (lists_for lists ready) in
+    let some : 0 < cut.read.admitted → All Tabled cut.read.readies =
+    λ begins.
+    all_from_members Tabled cut.read.readies
+    (λ ready c.
+    let own = member_of_all (IsReadyOf V r.lines) cut.read.readies ready (cut_own r cut) c in
+    let has = has_read r (of_cut r cut) tells (cut_every r cut begins) own.at own.bytes ready own.line own.admitted in
+    subst (IsTable ready.count) has.is has.table) in
+    let none : cut.read.admitted ≡ 0 → All Tabled cut.read.readies =
+    λ zeros.
+    let are = subst (λ n. AreAdmitted V 1 (take n r.lines) cut.read.stages cut.read.readies) zeros cut.read.are in
+    subst (All Tabled) (sym (none_ready V 1 cut.read.readies cut.read.stages are)) (All-nil Tabled) in
+    record {
+      told = sym (are_read r (of_cut r cut) tells);
+      tables = elim (cases_lt 0 cut.read.admitted) [ inl begins ↦ some begins | inr past ↦ none (omega (arith, past)) ];
     }

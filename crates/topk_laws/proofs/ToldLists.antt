@@ -38,6 +38,7 @@ use Rattle.catalog_run.specs.Runs.{CatalogRun, IsRun, IsReadyOf}
 use Rattle.catalog_run.specs.OpenSources.{batch_over}
 use Rattle.topk_laws.specs.ToldTables.{told_listed, view_told, ShelfTellsTables}
 use Rattle.topk_laws.proofs.Alike.{plain, Alike, none_alike, unseen_rows}
+use Rattle.topk_laws.proofs.OpenedRuns.{OpenedRun, of_run, stands_within}
 pub use Rattle.catalog_run.proofs.Readies.{admitted_few}
 use Rattle.catalog_run.proofs.Failing.{counted_back, rose_moves}
 use Rattle.catalog_run.proofs.Whole.{open_wanted}
@@ -206,14 +207,16 @@ names_told lists versions catalog (n ∷ ns) (p ∷ ps) e told =
     ap (λ o. o ∷ map (view_told catalog lists versions).told ns) (told_once_at lists catalog (entry_named catalog n) p rows here (told p (contains_here p ps)))
     ∙ ap (λ os. Some rows ∷ os) (names_told lists versions catalog ns ps rest (λ q c. told q (contains_there p ps q c)))
 
-module _ (r : CatalogRun) (outcomes : List LineOutcome) (run : IsRun r outcomes) (tells : ShelfTellsTables r) where
-  -- each source that the lines want is open and tells the rows of its place
-  pub told_open : (place : ℕ) → IsWanted r.catalog r.lines place → IsToldOpen r run.openings run.sources place
-  told_open place wanted =
-      let w = wanted.wants in
-      let inside : place < length r.catalog = member_of_all (λ p. p < length r.catalog) w.places place (places_within r.catalog w.query.names w.places w.known) w.named in
-      let all = run.all in
-      go (opening_at run.openings place) refl (run.opened.each place (omega (arith, inside, all)))
+-- what lines want stands in the catalog
+pub wanted_within : (r : CatalogRun) (place : ℕ) → IsWanted r.catalog r.lines place → place < length r.catalog
+wanted_within r place wanted =
+    let w = wanted.wants in
+    member_of_all (λ p. p < length r.catalog) w.places place (places_within r.catalog w.query.names w.places w.known) w.named
+
+module _ (r : CatalogRun) (run : OpenedRun r) (tells : ShelfTellsTables r) where
+  -- each source that the lines want, where it was tried, is open and tells the rows of its place
+  told_tried : (place : ℕ) → IsWanted r.catalog r.lines place → place < length run.openings → IsToldOpen r run.openings run.sources place
+  told_tried place wanted inside = go (opening_at run.openings place) refl (run.opened.each place inside)
     where
       go : (o : Opening) → opening_at run.openings place ≡ o
           → IsOpening r.lists r.versions r.catalog run.sources (IsWanted r.catalog r.lines) r.before run.mid place o → IsToldOpen r run.openings run.sources place
@@ -237,74 +240,105 @@ module _ (r : CatalogRun) (outcomes : List LineOutcome) (run : IsRun r outcomes)
             tells = told_as.0;
           }
 
-  -- what a wanted list says of itself is what its rows say
-  pub says_same : (place : ℕ) → IsWanted r.catalog r.lines place
-      → plain (listed_at r.catalog run.openings place) ≡ plain (told_listed r.lists r.versions r.catalog place)
-  says_same place wanted =
-      let o = told_open place wanted in
-      let entry = entry_at r.catalog place in
-      let here : plain (listed_at r.catalog run.openings place) ≡ said_plain entry (Some (length o.rows)) o.version = ap (λ p. plain (said_of entry p)) o.opens in
-      let there : plain (told_listed r.lists r.versions r.catalog place) ≡ said_plain entry (Some (length o.rows)) o.version =
-      ap (λ (t : Option (List Row)). said_plain entry (option_map length t) (unwrap_or (entry_told r.versions r.catalog place) 0)) o.told
-      ∙ ap (λ (v : Option ℕ). said_plain entry (Some (length o.rows)) (unwrap_or v 0)) o.stated in
-      here ∙ sym there
-
   -- the lists that the sources tell, by their numbers
-  abbrev pub lists_told : List (List Row)
-  lists_told = map rows_of run.sources.told
+  abbrev pub lists_read : List (List Row)
+  lists_read = map rows_of run.sources.told
 
   each_told : (source : ℕ) → source < length run.sources.places → (rows : List Row) × (slice_index_or run.sources.told source None ≡ Some rows)
   each_told source within =
       let place = slice_index_or run.sources.places source 0 in
       let n : IsNumbered r.catalog run.openings place source = run.opened.numbered source within in
       let wanted = open_wanted r.lists r.versions r.catalog (IsWanted r.catalog r.lines) r.before run.mid run.openings run.sources run.opened source within in
-      let o = told_open place wanted in
+      let o = told_tried place wanted (stands_within r run source within) in
       let same : Open n.size source n.version ≡ Open (length o.rows) o.source o.version = sym n.open_as ∙ o.opens in
       let number : source ≡ o.source = cc in
       (o.rows, subst (λ k. slice_index_or run.sources.told k None ≡ Some o.rows) (sym number) o.tells)
 
-  pub are_told : map Some lists_told ≡ run.sources.told
-  are_told = let many = run.opened.many_told in all_told run.sources.told (λ source l. each_told source (omega (arith, l, many)))
+  pub are_read : map Some lists_read ≡ run.sources.told
+  are_read = let many = run.opened.many_told in all_told run.sources.told (λ source l. each_told source (omega (arith, l, many)))
 
-  -- what is said of the lists of a line is alike
+  -- where each source was tried that the lines want
+  module _ (tried : (place : ℕ) → IsWanted r.catalog r.lines place → place < length run.openings) where
+    told_open : (place : ℕ) → IsWanted r.catalog r.lines place → IsToldOpen r run.openings run.sources place
+    told_open place wanted = told_tried place wanted (tried place wanted)
+
+    -- what a wanted list says of itself is what its rows say
+    says_same : (place : ℕ) → IsWanted r.catalog r.lines place
+        → plain (listed_at r.catalog run.openings place) ≡ plain (told_listed r.lists r.versions r.catalog place)
+    says_same place wanted =
+        let o = told_open place wanted in
+        let entry = entry_at r.catalog place in
+        let here : plain (listed_at r.catalog run.openings place) ≡ said_plain entry (Some (length o.rows)) o.version = ap (λ p. plain (said_of entry p)) o.opens in
+        let there : plain (told_listed r.lists r.versions r.catalog place) ≡ said_plain entry (Some (length o.rows)) o.version =
+        ap (λ (t : Option (List Row)). said_plain entry (option_map length t) (unwrap_or (entry_told r.versions r.catalog place) 0)) o.told
+        ∙ ap (λ (v : Option ℕ). said_plain entry (Some (length o.rows)) (unwrap_or v 0)) o.stated in
+        here ∙ sym there
+
+    -- what is said of the lists of a line is alike
+    pub to_read : (at : ℕ) (bytes : List ℕ) → slice_get r.lines at ≡ Some bytes → at + 1 ≤ most_queries
+        → Alike bytes (by_place r.catalog (listed_at r.catalog run.openings)) (by_place r.catalog (told_listed r.lists r.versions r.catalog))
+    to_read at bytes line few = alike_places r.catalog r.lines (listed_at r.catalog run.openings) (told_listed r.lists r.versions r.catalog) at bytes line few says_same
+
+    pub from_read : (at : ℕ) (bytes : List ℕ) → slice_get r.lines at ≡ Some bytes → at + 1 ≤ most_queries
+        → Alike bytes (by_place r.catalog (told_listed r.lists r.versions r.catalog)) (by_place r.catalog (listed_at r.catalog run.openings))
+    from_read at bytes line few =
+        alike_places r.catalog r.lines (told_listed r.lists r.versions r.catalog) (listed_at r.catalog run.openings) at bytes line few (λ place wanted. sym (says_same place wanted))
+
+    -- the lists of an admitted query are told and form a table
+    pub has_read : (at : ℕ) (bytes : List ℕ) (ready : ReadyQuery) → slice_get r.lines at ≡ Some bytes
+        → IsAdmitted (line_over (view_over r.catalog run.openings nothing_told) (at + 1) bytes) ready → HasLists r lists_read ready
+    has_read at bytes ready line admitted =
+        let V = view_over r.catalog run.openings nothing_told in
+        let few = admitted_few V (at + 1) bytes admitted.unrefused in
+        let q = ready.query in
+        let h = known_places r.catalog (listed_at r.catalog run.openings) q.names admitted.lists admitted.listed in
+        let wanted = named_wanted r.catalog r.lines at bytes q h.places line few admitted.reads h.known in
+        let D = map (rows_at r) h.places in
+        let told : map (view_told r.catalog r.lists r.versions).told q.names ≡ map Some D =
+        names_told r.lists r.versions r.catalog q.names h.places h.known (λ place c. let o = told_open place (wanted place c) in o.told ∙ ap Some (sym (ap rows_of o.told))) in
+        let none = none_alike V (view_told r.catalog r.lists r.versions) (at + 1) bytes (from_read at bytes line few) admission_causes
+        (λ c m. unseen_rows (view_told r.catalog r.lists r.versions) V c m) admitted.unrefused in
+        let table = tells.tables at bytes line q D none admitted.reads told in
+        let sizes : (place : ℕ) → Contains h.places place → (listed_at r.catalog run.openings place).size ≡ Some (length (rows_at r place)) =
+        λ place c. let o = told_open place (wanted place c) in ap (λ p. (said_of (entry_at r.catalog place) p).size) o.opens ∙ ap (λ (rows : List Row). Some (length rows)) (sym (ap rows_of o.told)) in
+        let counted = rows_counted (listed_at r.catalog run.openings) (rows_at r) h.places table.0 ready.count sizes (ap count_of (sym h.said) ∙ admitted.count) table.1.sized in
+        record {
+          D = D;
+          told = told;
+          is = map_same (rows_at r) (λ place. list_at lists_read (listed_at r.catalog run.openings place).source) h.places
+              (λ place c.
+              let o = told_open place (wanted place c) in
+              ap rows_of o.told ∙ sym (rows_at_source run.sources.told o.source o.rows o.tells) ∙ ap (list_at lists_read) (sym (ap (λ p. (said_of (entry_at r.catalog place) p).source) o.opens)))
+              ∙ sym (map_twice (λ place. (listed_at r.catalog run.openings place).source) (list_at lists_read) h.places)
+              ∙ ap (map (list_at lists_read)) (sym (map_twice (listed_at r.catalog run.openings) (λ (l : Listed). l.source) h.places) ∙ ap (map (λ (l : Listed). l.source)) (sym h.said) ∙ admitted.sources);
+          table = subst (λ n. IsTable n D) counted table.1;
+        }
+
+module _ (r : CatalogRun) (outcomes : List LineOutcome) (run : IsRun r outcomes) (tells : ShelfTellsTables r) where
+  -- a run that comes to its end tries all
+  all_tried : (place : ℕ) → IsWanted r.catalog r.lines place → place < length run.openings
+  all_tried place wanted =
+      let inside = wanted_within r place wanted in
+      let all = run.all in
+      omega (arith, inside, all)
+
+  abbrev pub lists_told : List (List Row)
+  lists_told = lists_read r (of_run r outcomes run) tells
+
+  pub are_told : map Some lists_told ≡ run.sources.told
+  are_told = are_read r (of_run r outcomes run) tells
+
   pub to_told : (at : ℕ) (bytes : List ℕ) → slice_get r.lines at ≡ Some bytes → at + 1 ≤ most_queries
       → Alike bytes (by_place r.catalog (listed_at r.catalog run.openings)) (by_place r.catalog (told_listed r.lists r.versions r.catalog))
-  to_told at bytes line few = alike_places r.catalog r.lines (listed_at r.catalog run.openings) (told_listed r.lists r.versions r.catalog) at bytes line few says_same
+  to_told = to_read r (of_run r outcomes run) tells all_tried
 
   pub from_told : (at : ℕ) (bytes : List ℕ) → slice_get r.lines at ≡ Some bytes → at + 1 ≤ most_queries
       → Alike bytes (by_place r.catalog (told_listed r.lists r.versions r.catalog)) (by_place r.catalog (listed_at r.catalog run.openings))
-  from_told at bytes line few =
-      alike_places r.catalog r.lines (told_listed r.lists r.versions r.catalog) (listed_at r.catalog run.openings) at bytes line few (λ place wanted. sym (says_same place wanted))
+  from_told = from_read r (of_run r outcomes run) tells all_tried
 
-  -- the lists of an admitted query are told and form a table
   pub has_lists : (at : ℕ) (bytes : List ℕ) (ready : ReadyQuery) → slice_get r.lines at ≡ Some bytes
       → IsAdmitted (line_over (view_over r.catalog run.openings nothing_told) (at + 1) bytes) ready → HasLists r lists_told ready
-  has_lists at bytes ready line admitted =
-      let V = view_over r.catalog run.openings nothing_told in
-      let few = admitted_few V (at + 1) bytes admitted.unrefused in
-      let q = ready.query in
-      let h = known_places r.catalog (listed_at r.catalog run.openings) q.names admitted.lists admitted.listed in
-      let wanted = named_wanted r.catalog r.lines at bytes q h.places line few admitted.reads h.known in
-      let D = map (rows_at r) h.places in
-      let told : map (view_told r.catalog r.lists r.versions).told q.names ≡ map Some D =
-      names_told r.lists r.versions r.catalog q.names h.places h.known (λ place c. let o = told_open place (wanted place c) in o.told ∙ ap Some (sym (ap rows_of o.told))) in
-      let none = none_alike V (view_told r.catalog r.lists r.versions) (at + 1) bytes (from_told at bytes line few) admission_causes
-      (λ c m. unseen_rows (view_told r.catalog r.lists r.versions) V c m) admitted.unrefused in
-      let table = tells.tables at bytes line q D none admitted.reads told in
-      let sizes : (place : ℕ) → Contains h.places place → (listed_at r.catalog run.openings place).size ≡ Some (length (rows_at r place)) =
-      λ place c. let o = told_open place (wanted place c) in ap (λ p. (said_of (entry_at r.catalog place) p).size) o.opens ∙ ap (λ (rows : List Row). Some (length rows)) (sym (ap rows_of o.told)) in
-      let counted = rows_counted (listed_at r.catalog run.openings) (rows_at r) h.places table.0 ready.count sizes (ap count_of (sym h.said) ∙ admitted.count) table.1.sized in
-      record {
-        D = D;
-        told = told;
-        is = map_same (rows_at r) (λ place. list_at lists_told (listed_at r.catalog run.openings place).source) h.places
-            (λ place c.
-            let o = told_open place (wanted place c) in
-            ap rows_of o.told ∙ sym (rows_at_source run.sources.told o.source o.rows o.tells) ∙ ap (list_at lists_told) (sym (ap (λ p. (said_of (entry_at r.catalog place) p).source) o.opens)))
-            ∙ sym (map_twice (λ place. (listed_at r.catalog run.openings place).source) (list_at lists_told) h.places)
-            ∙ ap (map (list_at lists_told)) (sym (map_twice (listed_at r.catalog run.openings) (λ (l : Listed). l.source) h.places) ∙ ap (map (λ (l : Listed). l.source)) (sym h.said) ∙ admitted.sources);
-        table = subst (λ n. IsTable n D) counted table.1;
-      }
+  has_lists = has_read r (of_run r outcomes run) tells all_tried
 
   -- so each query of the batch is on its run
   query_table : (ready : ReadyQuery) (q : Inquiry) → IsOf ready q → HasLists r lists_told ready → HasQueryTable lists_told q

@@ -14,18 +14,22 @@ use Rattle.query_admission.specs.Admission.{IsAdmitted}
 use Rattle.query_admission.specs.declared.lists.Listed.{Listed}
 use Rattle.query_admission.proofs.Positions.{nothing}
 use Rattle.query_admission.proofs.ReadyLists.{admitted_sorts, admitted_states}
+use Rattle.fetcher.specs.Metering.{WentUp}
 use Rattle.batch_result.specs.Account.{AsksGradesAlone, IsReadByGrades}
 use Rattle.batch_result.specs.Batches.{BatchRun, BatchState, IsBatch, use_at}
+use Rattle.batch_result.specs.Cut.{IsCut}
 use Rattle.batch_result.specs.Numbered.{counts_at}
 use Rattle.catalog_open.specs.Views.{listed_at, view_over, nothing_told}
 use Rattle.catalog_open.specs.Entries.{entry_at, opening_at}
 use Rattle.query_admission.specs.declared.line_outcome.LineOutcome.{LineOutcome}
 use Rattle.catalog_run.specs.OpenSources.{batch_over}
 use Rattle.catalog_run.specs.Runs.{CatalogRun, IsReadyOf, IsRun}
+use Rattle.catalog_run.specs.Cut.{IsCutRun}
 use Rattle.topk_laws.specs.Giving.{IsOutOfOrder}
 use Rattle.topk_laws.proofs.ToldLists.{known_places}
 use Rattle.topk_laws.proofs.InOrder.{said_sorted}
-use Rattle.topk_laws.proofs.Failures.{many_places, said_there, source_there, stood}
+use Rattle.topk_laws.proofs.Failures.{many_places, said_there, source_there}
+use Rattle.topk_laws.proofs.OpenedRuns.{OpenedRun, cut_own, of_cut, of_run, stood_open}
 use Rattle.topk_laws.proofs.Given.{given_from_none}
 
 -- a law of batches, as these lemmas take it
@@ -33,6 +37,11 @@ abbrev pub GradesAloneGiveNoRow : Type 0
 GradesAloneGiveNoRow =
     (run : BatchRun) (batch : BatchState) → IsBatch run batch → (source : ℕ) → source < length run.sizes → All (IsReadByGrades source) run.readies
     → ((use_at batch.uses source).want ≡ 0) × ((use_at batch.uses source).rows ≡ 0)
+
+abbrev pub CutGradesAloneGiveNoRow : Type 0
+CutGradesAloneGiveNoRow =
+    (run : BatchRun) (cut : IsCut run) (source : ℕ) → source < length run.sizes → All (IsReadByGrades source) run.readies
+    → ((use_at cut.uses source).want ≡ 0) × ((use_at cut.uses source).rows ≡ 0)
 
 -- whether a list can be read in order, by what it says of itself
 sorted_of : (lists : List Listed) (list : ℕ) → slice_index_or (sorted_at lists) list false ≡ (slice_index_or lists list nothing).sorted
@@ -60,15 +69,15 @@ grades_alone x ready list admitted l flat = elim (by_algorithm ready.query.algor
       absurd (true≢false (sym (admitted_sorts x ready admitted all list l) ∙ sym (sorted_of admitted.lists list) ∙ ap (λ (bs : List Bool). slice_index_or bs list false) admitted.sorted ∙ flat))
 ]
 
-module _ (r : CatalogRun) (outcomes : List LineOutcome) (run : IsRun r outcomes) where
+module _ (r : CatalogRun) (o : OpenedRun r) where
   abbrev P : View
-  P = view_over r.catalog run.openings nothing_told
+  P = view_over r.catalog o.openings nothing_told
 
   abbrev telling : ℕ → Listed
-  telling = listed_at r.catalog run.openings
+  telling = listed_at r.catalog o.openings
 
   -- the query of a line asks each of its lists that is of such a source for grades alone
-  by_grades : (source : ℕ) → IsOutOfOrder r.catalog run.sources.places source → (ready : ReadyQuery) → IsReadyOf P r.lines ready → IsReadByGrades source ready
+  by_grades : (source : ℕ) → IsOutOfOrder r.catalog o.sources.places source → (ready : ReadyQuery) → IsReadyOf P r.lines ready → IsReadByGrades source ready
   by_grades source none ready own = λ list l of.
       let x : QueryLine = line_over P (own.at + 1) own.bytes in
       let admitted : IsAdmitted x ready = own.admitted in
@@ -85,28 +94,50 @@ module _ (r : CatalogRun) (outcomes : List LineOutcome) (run : IsRun r outcomes)
       let source_is : slice_index_or ready.sources.items list 0 ≡ (telling place).source =
       ap (λ (sources : List ℕ). slice_index_or sources list 0) (sym admitted.sources ∙ ap (map (λ (k : Listed). k.source)) places.said)
       ∙ source_there telling places.places list inside in
-      let stands : slice_index_or run.sources.places source 0 ≡ place =
-      ap (λ s. slice_index_or run.sources.places s 0) (sym of ∙ source_is) ∙ stood r outcomes run place ready.count sized in
+      let stands : slice_index_or o.sources.places source 0 ≡ place =
+      ap (λ s. slice_index_or o.sources.places s 0) (sym of ∙ source_is) ∙ stood_open r o place ready.count sized in
       let sorted : slice_index_or ready.sorted.items list false ≡ (telling place).sorted =
       ap (λ (bs : List Bool). slice_index_or bs list false) (sym admitted.sorted) ∙ sorted_of admitted.lists list ∙ ap (λ (k : Listed). k.sorted) said in
       let flat : (telling place).sorted ≡ false =
-      said_sorted (entry_at r.catalog place) (opening_at run.openings place) ∙ ap (λ p. (entry_at r.catalog p).sorted) (sym stands) ∙ none in
+      said_sorted (entry_at r.catalog place) (opening_at o.openings place) ∙ ap (λ p. (entry_at r.catalog p).sorted) (sym stands) ∙ none in
       grades_alone x ready list admitted within (sorted ∙ flat)
 
-  pub gives_no_row : GradesAloneGiveNoRow → (source : ℕ) → source < length run.sources.places → IsOutOfOrder r.catalog run.sources.places source
-      → (counts_at run.now source).rows_given ≡ 0
-  gives_no_row law source within none =
-      let b = run.ran.ran in
-      let counts_long = run.opened.many_counts in
-      let told_long = run.opened.many_told in
-      let begun_long = run.ran.many in
-      let sized : source < length run.sources.counts = omega (arith, within, counts_long) in
-      let there : source < length run.begun = omega (arith, within, told_long, begun_long) in
-      let alone = all_from_members (IsReadByGrades source) run.ran.readies
-      (λ ready c. by_grades source none ready (member_of_all (IsReadyOf P r.lines) run.ran.readies ready run.ran.own c)) in
-      let used = law (batch_over r.settings run.sources run.begun run.now run.ran.readies) run.ran.batch b source sized alone in
-      let rows : (use_at run.ran.batch.uses source).rows ≡ 0 = used.1 in
-      let none_given : (counts_at run.now source).rows_given ≤ 0 =
-      given_from_none (use_at run.ran.batch.uses source).rows 0 (counts_at run.begun source).rows_given (counts_at run.now source).rows_given
-      (run.unread source no_counts there).rows (b.used source sized).rows (omega (arith, rows)) (omega arith) in
-      omega (arith, none_given)
+  all_by_grades : (readies : List ReadyQuery) (source : ℕ) → IsOutOfOrder r.catalog o.sources.places source → All (IsReadyOf P r.lines) readies
+      → All (IsReadByGrades source) readies
+  all_by_grades readies source none own =
+      all_from_members (IsReadByGrades source) readies (λ ready c. by_grades source none ready (member_of_all (IsReadyOf P r.lines) readies ready own c))
+
+-- a source of which no row was used had given none
+none_given : (number before now : ℕ) → number ≡ 0 → before ≡ 0 → WentUp number before now → now ≡ 0
+none_given number before now none first up =
+    let few : now ≤ 0 = given_from_none number 0 before now first up (omega (arith, none)) (omega arith) in
+    omega (arith, few)
+
+pub gives_no_row : GradesAloneGiveNoRow → (r : CatalogRun) (outcomes : List LineOutcome) (run : IsRun r outcomes) (source : ℕ)
+    → source < length run.sources.places → IsOutOfOrder r.catalog run.sources.places source → (counts_at run.now source).rows_given ≡ 0
+gives_no_row law r outcomes run source within none =
+    let b = run.ran.ran in
+    let counts_long = run.opened.many_counts in
+    let told_long = run.opened.many_told in
+    let begun_long = run.ran.many in
+    let sized : source < length run.sources.counts = omega (arith, within, counts_long) in
+    let there : source < length run.begun = omega (arith, within, told_long, begun_long) in
+    let alone = all_by_grades r (of_run r outcomes run) run.ran.readies source none run.ran.own in
+    let used = law (batch_over r.settings run.sources run.begun run.now run.ran.readies) run.ran.batch b source sized alone in
+    none_given (use_at run.ran.batch.uses source).rows (counts_at run.begun source).rows_given (counts_at run.now source).rows_given used.1
+    (run.unread source no_counts there).rows (b.used source sized).rows
+
+-- so it is where memory was wanting
+pub cut_gives_no_row : CutGradesAloneGiveNoRow → (r : CatalogRun) (cut : IsCutRun r) (source : ℕ) → source < length cut.sources.places
+    → IsOutOfOrder r.catalog cut.sources.places source → (counts_at cut.now source).rows_given ≡ 0
+cut_gives_no_row law r cut source within none =
+    let b = cut.read.cut in
+    let counts_long = cut.opened.many_counts in
+    let told_long = cut.opened.many_told in
+    let begun_long = cut.read.many in
+    let sized : source < length cut.sources.counts = omega (arith, within, counts_long) in
+    let there : source < length cut.begun = omega (arith, within, told_long, begun_long) in
+    let alone = all_by_grades r (of_cut r cut) cut.read.readies source none (cut_own r cut) in
+    let used = law (batch_over r.settings cut.sources cut.begun cut.now cut.read.readies) b source sized alone in
+    none_given (use_at b.uses source).rows (counts_at cut.begun source).rows_given (counts_at cut.now source).rows_given used.1
+    (cut.unread source no_counts there).rows (b.read.used source sized).rows

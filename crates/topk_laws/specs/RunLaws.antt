@@ -9,14 +9,15 @@ use Rattle.catalog_text.specs.Catalog.{Listed as Entry, IsCatalog}
 use Rattle.command_words.specs.declared.running.RunOptions.{RunOptions}
 use Rattle.limits.specs.declared.settings.Settings.{Settings}
 use Rattle.catalog_run.specs.Runs.{CatalogRun, IsRun}
+use Rattle.catalog_run.specs.Cut.{IsCutRun}
 use Rattle.query_admission.specs.declared.line_outcome.LineOutcome.{LineOutcome}
 use Rattle.topk_laws.specs.ToldTables.{AllBecome, ShelfTellsTables, view_told}
 use Rattle.topk_laws.specs.Failures.{RefusesFew}
-use Rattle.topk_laws.specs.Giving.{EachGaveSparingly, EachPlaceRose}
+use Rattle.topk_laws.specs.Giving.{EachGaveSparingly, EachHadGivenSparingly, EachPlaceHadRisen, EachPlaceRose}
 use Rattle.call_ends.specs.Calls.{Call, WroteWhole, input_limit}
 use Rattle.call_ends.specs.Shelves.{Shelf, TextFailed}
 use Rattle.catalog_run.specs.Running.{RefusesCatalog, RepliesToLines, outcomes_text, lines_run, run_status}
-use Rattle.catalog_run.specs.RunEnds.{EndsRunning}
+use Rattle.catalog_run.specs.RunEnds.{EndsRunning, LinesLeft}
 use Rattle.call_ends.specs.declared.status.Status.{Status}
 use Rattle.call_ends.specs.declared.status.Status.TheVariants.{BadCatalog, Memory}
 use Rattle.call_ends.specs.declared.status.Status.TheVariants.{WriteFault, OpenFault}
@@ -106,3 +107,15 @@ abbrev pub RepliesAreSparing : Type 0
 RepliesAreSparing =
     (settings : Settings) (text bytes : List ℕ) (before after : Shelf) (status : Status) (said : List ℕ)
     (r : RepliesToLines settings text bytes before after status said) → IsSparing (lines_run settings r.catalog (lines bytes) before after) r.outcomes r.run
+
+-- a run for which memory was wanting was sparing: by then a source had given no more than the lines asked of it, and no more than their one runs read of it; and
+-- what the shelf counted at a place rose by that
+pub record WasSparing (r : CatalogRun) (cut : IsCutRun r) : Type 0 where
+  pub gave : EachHadGivenSparingly r cut
+  pub counted : EachPlaceHadRisen r cut
+
+-- lines are read sparingly also where memory is wanting
+abbrev pub CutRunsAreSparing : Type 0
+CutRunsAreSparing =
+    (settings : Settings) (text : List ℕ) (c : Call) (left : LinesLeft settings text c)
+    → WasSparing (lines_run settings left.catalog (lines left.bytes) c.before.shelf c.after.shelf) left.cut

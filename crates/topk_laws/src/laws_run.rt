@@ -1,10 +1,11 @@
 //! Laws of what a run of query lines comes to. A run ends as `EndsRunning` says, and so does each call of `top` whose words are those of a
 //! run.
 
-ghost use Rattle.topk_laws.specs.RunLaws.{RepliesAreSparing, SettingsChangeNothing, ToldRunsWriteTheOne, WrongCatalogsAreRefused};
+ghost use Rattle.topk_laws.specs.RunLaws.{CutRunsAreSparing, RepliesAreSparing, SettingsChangeNothing, ToldRunsWriteTheOne, WrongCatalogsAreRefused};
 
 use super::laws_catalog::{
-    failures_refuse_few_lines, sources_give_what_is_asked, told_tables_give_the_one_outcome,
+    cut_runs_give_what_is_asked, failures_refuse_few_lines, sources_give_what_is_asked,
+    told_tables_give_the_one_outcome,
 };
 
 /// Where the shelf tells a text of the catalog's place that is no catalog, the run is refused and the text that it writes
@@ -41,4 +42,13 @@ pub fn replies_are_sparing()
 {
     sources_give_what_is_asked();
     failures_refuse_few_lines();
+}
+
+/// A run for which memory was wanting had read no more of any source than one that ends: no row beyond the reach of the greatest depth to which a
+/// line asked, no more grades than objects were asked for, no row of a list that can't be read in order, and over told tables no more than the
+/// one runs of the lines read.
+pub fn cut_runs_are_sparing()
+    ensures { CutRunsAreSparing }
+{
+    cut_runs_give_what_is_asked();
 }

@@ -11,11 +11,12 @@ mod node_law;
 
 pub use laws::{answers_are_fixed, counters_are_bundles, limits_are_stated};
 pub use laws_catalog::{
-    answers_over_told_tables_are_the_one, failed_lists_have_causes, failures_refuse_few_lines,
-    outcomes_are_right, sources_give_what_is_asked, told_tables_give_the_one_outcome,
+    answers_over_told_tables_are_the_one, cut_runs_give_what_is_asked, failed_lists_have_causes,
+    failures_refuse_few_lines, outcomes_are_right, sources_give_what_is_asked,
+    told_tables_give_the_one_outcome,
 };
 pub use laws_run::{
-    replies_are_sparing, settings_change_nothing, told_runs_write_the_one_text,
-    wrong_catalogs_are_refused,
+    cut_runs_are_sparing, replies_are_sparing, settings_change_nothing,
+    told_runs_write_the_one_text, wrong_catalogs_are_refused,
 };
 pub use node_law::a_node_is_read_back;

@@ -3,6 +3,7 @@ use Rattle.bulk_run.specs.Endings.{AllEndInOne}
 use Rattle.bulk_run.proofs.TableLaws.{slots_long, none_fed}
 use Rattle.bulk_run.proofs.Readying.{all_counted, all_ready_for, counts_long, readies_long}
 use Rattle.bulk_run.proofs.OneAnswers.{ran_in_one}
+use Rattle.bulk_run.proofs.ReadsLaws.{cut_sparingly, ran_sparingly}
 use Rattle.bulk_run.proofs.run.run_queries.Goals as goal
 
 pub run_all-requires-clause-sources : goal.run_all-requires-clause-sources
@@ -31,8 +32,20 @@ run_all-requires-clause-ready g c κs within = all_ready_for c.args.input c.args
 pub run_all-requires-clause-empty : goal.run_all-requires-clause-empty
 run_all-requires-clause-empty g c κs within = none_fed c.args.input.start c.args.input.count c.args.input.lists c.args.slots.now.items c.requires.slots
 
-pub returns : goal.returns
-returns g c =
+pub returns-in_default-clause-read : goal.returns-in_default-clause-read
+returns-in_default-clause-read g c =
+    cut_sparingly c.args.input c.args.settings c.args.counts.now c.args.readies.now c.args.slots.now.items c.run_all.new.sources.items c.requires.input
+    c.requires.settings c.requires.counts c.requires.readies c.requires.slots c.run_all.ensures.lists c.told_tables_bound_a_cut_batch.ensures.within
+    c.in_default.ensures.cut
+
+pub returns-clause-read : goal.returns-clause-read
+returns-clause-read g c =
+    ran_sparingly c.args.input c.args.settings c.args.counts.now c.args.readies.now c.args.slots.now.items c.run_all.new.sources.items c.requires.input
+    c.requires.settings c.requires.counts c.requires.readies c.requires.slots c.run_all.ensures.lists c.told_tables_bound_the_uses.ensures.within c.in-Ok.batch
+    c.in-Ok.ensures.batch
+
+pub returns-clause-ended : goal.returns-clause-ended
+returns-clause-ended g c =
     subst (AllEndInOne c.args.input) (sym c.into_endings.ensures)
     (ran_in_one c.args.input c.args.settings c.args.counts.now c.args.readies.now c.args.slots.now.items c.run_all.new.sources.items c.in-Ok.batch c.requires.readies
     c.requires.slots c.told_tables_give_the_one_ending.ensures c.in-Ok.ensures.batch)

@@ -1,14 +1,15 @@
-use Rattle.std.proofs.Common.{◌≡◌, ◌∙◌, [], All, ap, length, map, refl, subst, sym}
+use Rattle.std.proofs.Common.{◌≡◌, ◌≤◌, ◌∙◌, [], All, ap, length, map, refl, subst, sym}
 use Rattle.std.proofs.lemmas.List.{length-map}
-use Rattle.std.proofs.lemmas.List.Elements.{All-from_recursion}
+use Rattle.std.proofs.lemmas.List.Elements.{All-from_recursion, All-nil}
 use Rattle.catalog_open.specs.Views.{view_over, nothing_told}
 use Rattle.catalog_open.specs.Wanted.{AreMarked, AreRead, IsWanted}
-use Rattle.catalog_open.specs.Openings.{IsKnownAt}
+use Rattle.catalog_open.specs.Openings.{IsKnownAt, IsUnread}
 use Rattle.catalog_open.specs.Slots.{IsIdle, of_slot}
 use Rattle.catalog_open.proofs.Opens.{opened_as, opened_none}
-use Rattle.catalog_open.proofs.Unread.{still}
+use Rattle.catalog_open.proofs.Unread.{none_unread, still}
 use Rattle.catalog_run.specs.Runs.{AsksWantedOnce}
 use Rattle.catalog_run.proofs.Running.{if_then}
+use Rattle.catalog_run.proofs.Cuts.{cut_told, short_too, stops_unread}
 use Rattle.catalog_open.proofs.Once.{holds_so}
 use Rattle.catalog_run.proofs.Whole.{few_still, few_wanted, opened_marked, opened_told, ran_told}
 use Rattle.catalog_run.proofs.lines.open_and_run.Goals as goal
@@ -35,6 +36,10 @@ returns-in_default g c =
       few = few_still catalog (map (λ line. line.now) c.args.lines.now) at at (λ place. refl);
       idle = λ place. still (at place);
       ran = tt;
+      cut = stops_unread g.H.Item.Source.list g.H.Item.Source.counts g.H.Item.Source.at_hand c.args.settings c.args.slots.now.items c.args.opened.now.places.items c.args.opened.now.counts.items
+          (view_over catalog c.args.opened.now.openings.items nothing_told) (map (λ line. line.now) c.args.lines.now) ((length c.args.opened.now.openings.items ≡ length catalog) × AsksWantedOnce catalog (map (λ line. line.now) c.args.lines.now) at at) ((g.met.H.Item.Source g.world.𝓛 g.world.𝓜 g.world.𝓡 ((λ s x. x), (λ x. x), (λ x. x), λ x. x)).distinct)
+          (ap length c.requires.counts ∙ ap length (sym c.requires.sources)) (subst (All (λ size. size ≤ 200000)) (sym c.requires.counts) (All-nil (λ size. size ≤ 200000)))
+          (subst (All IsUnread) (sym (ap (map (of_slot g.H.Item.Source.counts)) c.requires.sources)) none_unread);
       writable = tt;
     }
 
@@ -60,6 +65,10 @@ returns-in_default-mark_wanted g c =
       few = few_still catalog (map (λ line. line.now) c.args.lines.now) at at (λ place. refl);
       idle = λ place. still (at place);
       ran = tt;
+      cut = stops_unread g.H.Item.Source.list g.H.Item.Source.counts g.H.Item.Source.at_hand c.args.settings c.args.slots.now.items c.args.opened.now.places.items c.args.opened.now.counts.items
+          (view_over catalog c.args.opened.now.openings.items nothing_told) (map (λ line. line.now) c.args.lines.now) ((length c.args.opened.now.openings.items ≡ length catalog) × AsksWantedOnce catalog (map (λ line. line.now) c.args.lines.now) at at) ((g.met.H.Item.Source g.world.𝓛 g.world.𝓜 g.world.𝓡 ((λ s x. x), (λ x. x), (λ x. x), λ x. x)).distinct)
+          (ap length c.requires.counts ∙ ap length (sym c.requires.sources)) (subst (All (λ size. size ≤ 200000)) (sym c.requires.counts) (All-nil (λ size. size ≤ 200000)))
+          (subst (All IsUnread) (sym (ap (map (of_slot g.H.Item.Source.counts)) c.requires.sources)) none_unread);
       writable = tt;
     }
 
@@ -81,6 +90,10 @@ returns-in-Err g c =
       few = few_wanted c.args.catalog.now lines c.deref-2.result.now (g.H.Shelf.at c.args.shelf.now) (g.H.Shelf.at c.open_wanted-opening.new.shelf) marked c.open_wanted-opening.ensures.few_asks;
       idle = c.open_wanted-opening.ensures.back;
       ran = tt;
+      cut = stops_unread g.H.Item.Source.list g.H.Item.Source.counts g.H.Item.Source.at_hand c.args.settings c.open_wanted-opening.new.slots.items c.open_wanted-opening.new.opened.places.items
+          c.open_wanted-opening.new.opened.counts.items (view_over c.args.catalog.now c.open_wanted-opening.new.opened.openings.items nothing_told) lines ((length c.open_wanted-opening.new.opened.openings.items ≡ length c.args.catalog.now) × AsksWantedOnce c.args.catalog.now lines (g.H.Shelf.at c.args.shelf.now) (g.H.Shelf.at c.open_wanted-opening.new.shelf)) ((g.met.H.Item.Source g.world.𝓛 g.world.𝓜 g.world.𝓡 ((λ s x. x), (λ x. x), (λ x. x), λ x. x)).distinct)
+          (c.open_wanted-opening.ensures.opened.many_counts ∙ sym c.open_wanted-opening.ensures.opened.many_told ∙ length-map c.open_wanted-opening.new.slots.items (of_slot g.H.Item.Source.list))
+          c.open_wanted-opening.ensures.opened.small c.open_wanted-opening.ensures.unread;
       writable = tt;
     }
 
@@ -113,5 +126,12 @@ returns-in-Ok-opening g c =
       idle = c.open_wanted-opening.ensures.back;
       ran = if_then c.run_opened.result _ _ (c.run_opened.ensures.ran lines c.in-Ok.ensures)
           (λ outcomes ran. (begun, c.open_wanted-opening.ensures.unread, ran_told c.args.settings told same held same_held places counts begun now (view_over c.args.catalog.now openings nothing_told) lines outcomes.items c.run_opened.ensures.lists c.run_opened.ensures.versions ran));
+      cut = short_too c.run_opened.result (c.run_opened.ensures.cut lines c.in-Ok.ensures)
+          (λ cut. (
+            begun,
+            c.open_wanted-opening.ensures.unread,
+            cut_told c.args.settings told same held same_held places counts begun now (view_over c.args.catalog.now openings nothing_told) lines c.run_opened.ensures.lists c.run_opened.ensures.versions cut,
+            λ some. (c.in-Ok-opening.ensures.all, (c.deref-2.result.now, marked, c.in-Ok-opening.ensures.once)),
+          ));
       writable = c.run_opened.ensures.writable;
     }

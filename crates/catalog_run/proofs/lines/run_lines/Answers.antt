@@ -5,6 +5,7 @@ use Rattle.catalog_open.specs.Wanted.{IsWanted}
 use Rattle.catalog_open.specs.Openings.{KeepsOthers, PutsBack, put_back}
 use Rattle.catalog_run.specs.Runs.{AsksWantedOnce}
 use Rattle.catalog_run.proofs.Whole.{back_keeps, both_so, few_put, if_ran, is_run, run_moves}
+use Rattle.catalog_run.proofs.Cuts.{cut_run, short_too}
 use Rattle.catalog_run.proofs.lines.run_lines.Goals as goal
 
 pub returns-clause-texts : goal.returns-clause-texts
@@ -49,3 +50,11 @@ returns-clause-run g c =
     if_ran r.result _ _ ((length r.new.opened.openings.items ≡ length c.args.catalog.now) × Once) r.ensures.ran
     (both_so r.result (length r.new.opened.openings.items ≡ length c.args.catalog.now) Once r.ensures.all r.ensures.once)
     (λ outcomes ran both. is_run c.args.catalog.now (map (λ line. line.now) c.args.lines.now) (g.H.Shelf.lists c.args.shelf.now) (g.H.Shelf.versions c.args.shelf.now) c.args.settings (g.H.Shelf.at c.args.shelf.now) (g.H.Shelf.at r.new.shelf) (g.H.Shelf.at c.put_back_all.new.shelf) r.new.opened.openings.items _ ran.0 (map (of_slot g.H.Item.Source.counts) r.new.slots.items) outcomes.items r.ensures.opened both.0 both.1 r.ensures.idle ran.1 ran.2 back)
+
+pub returns-clause-cut : goal.returns-clause-cut
+returns-clause-cut g c =
+    let r = c.open_and_run-result in
+    let now = map (of_slot g.H.Item.Source.counts) r.new.slots.items in
+    let back = subst (λ places. PutsBack (reverse (put_back c.args.catalog.now places now)) (g.H.Shelf.at r.new.shelf) (g.H.Shelf.at c.put_back_all.new.shelf)) c.deref.ensures.value c.put_back_all.ensures.moves in
+    short_too r.result r.ensures.cut
+    (λ stops. cut_run c.args.catalog.now (map (λ line. line.now) c.args.lines.now) (g.H.Shelf.lists c.args.shelf.now) (g.H.Shelf.versions c.args.shelf.now) c.args.settings (g.H.Shelf.at c.args.shelf.now) (g.H.Shelf.at r.new.shelf) (g.H.Shelf.at c.put_back_all.new.shelf) r.new.opened.openings.items _ now r.ensures.opened r.ensures.idle stops back)

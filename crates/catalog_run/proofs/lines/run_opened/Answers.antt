@@ -6,6 +6,8 @@ use Rattle.catalog_open.specs.Views.{view_over, nothing_told}
 use Rattle.catalog_open.specs.Entries.{IsMarked}
 use Rattle.catalog_open.specs.Slots.{of_slot, sources_in}
 use Rattle.catalog_run.specs.Merging.{Merges}
+use Rattle.catalog_run.specs.OpenSources.{batch_over}
+use Rattle.catalog_run.proofs.Cuts.{cut_of_readies, cut_over, cut_whole, if_short, reads_unread}
 use Rattle.catalog_run.proofs.Readies.{all_ready, all_versions, readies_few}
 use Rattle.catalog_run.proofs.Running.{as_many, batch_of_readies, if_then, ran_fits, ran_over, ran_written}
 use Rattle.catalog_run.proofs.lines.run_opened.Goals as goal
@@ -49,10 +51,41 @@ merge-requires g c =
     c.in-Ok.admissions.stages.items readies c.in-Ok-run_all.batch c.into_endings.result.items c.into_endings.ensures ran (c.in-Ok.ensures read.0 read.1)
 
 pub returns-in_default : goal.returns-in_default
-returns-in_default g c = record { free = c.requires.free; lists = refl; versions = refl; ran = λ lines read. tt; writable = tt }
+returns-in_default g c =
+    let o = c.requires.opened in
+    record {
+      free = c.requires.free;
+      lists = refl;
+      versions = refl;
+      ran = λ lines read. tt;
+      cut = λ lines read.
+          reads_unread g.S.Source.list g.S.Source.counts g.S.Source.at_hand c.args.settings c.args.slots.now.items c.args.opened.now.places.items c.args.opened.now.counts.items
+          (view_over c.args.catalog.now c.args.opened.now.openings.items nothing_told) lines
+          ((g.met.S.Source g.world.𝓛 g.world.𝓜 g.world.𝓡 ((λ s x. x), (λ x. x), (λ x. x), λ x. x)).distinct)
+          (o.5.many_counts ∙ sym o.5.many_told ∙ length-map c.args.slots.now.items (of_slot g.S.Source.list)) o.5.small;
+      writable = tt;
+    }
 
 pub returns-in_default-run_all : goal.returns-in_default-run_all
-returns-in_default-run_all g c = record { free = c.run_all.ensures.empty; lists = c.run_all.ensures.lists; versions = c.run_all.ensures.versions; ran = λ lines read. tt; writable = tt }
+returns-in_default-run_all g c =
+    let begun = map (of_slot g.S.Source.counts) c.args.slots.now.items in
+    let now = map (of_slot g.S.Source.counts) c.run_all.new.sources.items in
+    let sources = sources_in g.S.Source.list g.S.Source.at_hand c.args.slots.now.items c.args.opened.now.places.items c.args.opened.now.counts.items in
+    let readies = c.in-Ok.admissions.readies.items in
+    let stages = c.in-Ok.admissions.stages.items in
+    record {
+      free = c.run_all.ensures.empty;
+      lists = c.run_all.ensures.lists;
+      versions = c.run_all.ensures.versions;
+      ran = λ lines read. tt;
+      cut = λ lines read.
+          cut_over c.args.settings sources begun now (view_over c.args.catalog.now c.args.opened.now.openings.items nothing_told) lines stages readies
+          (as_many (of_slot g.S.Source.counts) (of_slot g.S.Source.list) c.args.slots.now.items) c.run_all.ensures.later
+          (subst (λ os. AreAdmitted (view_over c.args.catalog.now os nothing_told) 1 lines stages readies) c.deref.ensures.value (c.in-Ok.ensures lines read))
+          (cut_of_readies c.args.settings sources c.deref-2.result.now begun now c.deref-3.result.now readies c.deref-2.ensures.value c.deref-3.ensures.value
+          c.in_default-run_all.ensures.cut);
+      writable = tt;
+    }
 
 pub returns : goal.returns
 returns g c =
@@ -83,6 +116,11 @@ returns g c =
           (λ o merged. ran_over c.args.settings sources begun now view lines stages readies c.in-Ok-run_all.batch o.items
           (as_many (of_slot g.S.Source.counts) (of_slot g.S.Source.list) c.args.slots.now.items) c.run_all.ensures.later ready versions ran own
           (subst (λ es. Merges stages readies es o.items) c.into_endings.ensures merged));
+      cut = λ lines read.
+          let own = subst (λ os. AreAdmitted (view_over c.args.catalog.now os nothing_told) 1 lines stages readies) c.deref.ensures.value (c.in-Ok.ensures lines read) in
+          if_short c.merge.result
+          (cut_over c.args.settings sources begun now view lines stages readies (as_many (of_slot g.S.Source.counts) (of_slot g.S.Source.list) c.args.slots.now.items)
+          c.run_all.ensures.later own (cut_whole (batch_over c.args.settings sources begun now readies) c.in-Ok-run_all.batch ran));
       writable =
           if_then c.merge.result (λ o. Merges stages readies c.into_endings.result.items o.items) _ c.merge.ensures
           (λ o merged. ran_written c.args.settings sources begun now view at.0 stages readies c.in-Ok-run_all.batch o.items ran are

@@ -1,4 +1,5 @@
 use Rattle.batch_result.proofs.AccountLaws.{out_of_order, printed_account, told_account}
+use Rattle.topk_laws.proofs.OpenedRuns.{of_run}
 use Rattle.topk_laws.proofs.Given.{rose_by_given}
 use Rattle.topk_laws.proofs.ReadGiven.{gave_sparingly, lines_have_tables}
 use Rattle.topk_laws.proofs.ToldLists.{lists_told}
@@ -14,4 +15,4 @@ pub returns-clause-tables : goal.returns-clause-tables
 returns-clause-tables c = λ r outcomes run tells. (lists_told r outcomes run tells, lines_have_tables r outcomes run tells)
 
 pub returns-clause-places : goal.returns-clause-places
-returns-clause-places c = λ r outcomes run place. rose_by_given r outcomes run place
+returns-clause-places c = λ r outcomes run place. rose_by_given r (of_run r outcomes run) place

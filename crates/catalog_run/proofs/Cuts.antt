@@ -1,0 +1,161 @@
+-- What was read by a run for which memory was wanting.
+use Rattle.std.proofs.Common.{◌≡◌, ◌≤◌, ◌<◌, ℕ, List, [], ◌∷◌, All, Option, None, Some, length, map, reverse, IfSome, Result, Ok, Err, OnErr, refl, sym, ap, ◌∙◌, subst, arith}
+use Rattle.std.specs.List.{AllZip}
+use Rattle.std.proofs.lemmas.List.{length-map, take_all}
+use Rattle.std.proofs.lemmas.List.Elements.{All-nil}
+use Rattle.ranked_list.specs.declared.row.Row.{Row}
+use Rattle.source_api.specs.declared.counts.Counts.{Counts}
+use Rattle.source_api.specs.Counting.{NoneFell, no_counts}
+use Rattle.source_api.specs.Told.{HasEachOnce}
+use Rattle.query_core.specs.declared.ready.Ready.{Ready as ReadyQuery}
+use Rattle.query_admission.specs.View.{View}
+use Rattle.query_run.specs.declared.inquiry.Inquiry.{Inquiry}
+use Rattle.query_run.specs.Made.{IsOf}
+use Rattle.fetcher.specs.declared.slot.Slot.{Slot}
+use Rattle.limits.specs.declared.settings.Settings.{Settings}
+use Rattle.batch_result.specs.Batches.{BatchRun, BatchState, IsBatch}
+use Rattle.batch_result.specs.Cut.{IsOfBegun, IsReadBy, IsCut, begun as begun_of}
+use Rattle.batch_run.proofs.RunLaws.{counts_same}
+use Rattle.batch_run.proofs.UncalledLaws.{cut_uncalled}
+use Rattle.catalog_text.specs.Catalog.{Listed as Entry}
+use Rattle.catalog_open.specs.declared.admissions.Stage.{Stage}
+use Rattle.catalog_open.specs.declared.opened.Opening.{Opening}
+use Rattle.catalog_open.specs.Admissions.{AreAdmitted}
+use Rattle.catalog_open.specs.Views.{view_over, nothing_told}
+use Rattle.catalog_open.specs.Wanted.{IsWanted}
+use Rattle.catalog_open.specs.Slots.{of_slot, sources_in}
+use Rattle.catalog_open.specs.Openings.{Counted, Sources, IsUnread, GivesNothing, AreOpened, PutsBack, put_back}
+use Rattle.catalog_open.proofs.Opens.{opened_none}
+use Rattle.catalog_open.proofs.Unread.{none_unread, still}
+use Rattle.catalog_run.specs.OpenSources.{batch_over}
+use Rattle.catalog_run.specs.Runs.{AsksWantedOnce}
+use Rattle.catalog_run.specs.Cut.{CutOver, IsCutRun}
+use Rattle.catalog_run.proofs.Whole.{sources_as}
+
+-- ---- a batch that came to its end reads as one does for which memory was wanting
+
+all_began : (queries : List Inquiry) → begun_of (map Some queries) ≡ queries
+all_began [] = refl
+all_began (q ∷ queries) = ap (λ (qs : List Inquiry). q ∷ qs) (all_began queries)
+
+all_of : (readies : List ReadyQuery) (queries : List Inquiry) → AllZip IsOf readies queries → AllZip IsOfBegun readies (map Some queries)
+all_of [] [] h = tt
+all_of [] (q ∷ queries) h = absurd h
+all_of (ready ∷ readies) [] h = absurd h
+all_of (ready ∷ readies) (q ∷ queries) h = (h.0, all_of readies queries h.1)
+
+pub cut_whole : (run : BatchRun) (batch : BatchState) → IsBatch run batch → IsCut run
+cut_whole run batch ran =
+    let read : IsReadBy run ran.queries ran.states batch.uses = record { many = ran.many; closing = ran.closing; served = ran.served; used = ran.used } in
+    record {
+      stood = map Some ran.queries;
+      states = ran.states;
+      uses = batch.uses;
+      of = all_of run.readies ran.queries ran.of;
+      read = subst (λ (qs : List Inquiry). IsReadBy run qs ran.states batch.uses) (sym (all_began ran.queries)) read;
+    }
+
+-- the batch of these queries, in other words
+pub cut_of_readies : (settings : Settings) (s : Sources) (sizes : List ℕ) (before now : List Counts) (lent readies : List ReadyQuery) → sizes ≡ s.counts
+    → lent ≡ readies → IsCut (batch_over settings (record s { counts = sizes }) before now lent) → IsCut (batch_over settings s before now readies)
+cut_of_readies settings s sizes before now lent readies same_counts same cut =
+    subst (λ (cs : List ℕ). IsCut (batch_over settings (record s { counts = cs }) before now readies)) same_counts
+    (subst (λ (rs : List ReadyQuery). IsCut (batch_over settings (record s { counts = sizes }) before now rs)) same cut)
+
+-- ---- over the lines
+
+-- all lines were admitted
+pub cut_over : (settings : Settings) (s : Sources) (before now : List Counts) (view : View) (lines : List (List ℕ)) (stages : List Stage)
+    (readies : List ReadyQuery) → length before ≡ length s.told → AllZip NoneFell before now → AreAdmitted view 1 lines stages readies
+    → IsCut (batch_over settings s before now readies) → CutOver settings s before now view lines
+cut_over settings s before now view lines stages readies many later are cut = record {
+  many = many;
+  later = later;
+  admitted = length lines;
+  stages = stages;
+  readies = readies;
+  are = subst (λ (ls : List (List ℕ)). AreAdmitted view 1 ls stages readies) (sym (take_all (length lines) lines (omega arith))) are;
+  cut = cut;
+}
+
+-- the lists and the versions of the sources, in other words
+pub cut_told : (settings : Settings) (told same : List (Option (List Row))) (held same_held places counts : List ℕ) (before now : List Counts) (view : View)
+    (lines : List (List ℕ)) → same ≡ told → same_held ≡ held → CutOver settings (sources_as told held places counts) before now view lines
+    → CutOver settings (sources_as same same_held places counts) before now view lines
+cut_told settings told same held same_held places counts before now view lines is at cut =
+    subst (λ (t : List (Option (List Row))). CutOver settings (sources_as t same_held places counts) before now view lines) (sym is)
+    (subst (λ (h : List ℕ). CutOver settings (sources_as told h places counts) before now view lines) (sym at) cut)
+
+-- sources of which nothing had been read were open when the lines began; lines were admitted only after this
+abbrev pub StopsOver : Settings → Sources → List Counts → View → List (List ℕ) → Type 0 → Type 0
+StopsOver settings s now view lines First =
+    (before : List Counts) × All IsUnread before × (cut : CutOver settings s before now view lines) × (0 < cut.admitted → First)
+
+module _ {S : Type 0} (list : S → Option (List Row)) (counts : S → Counts) (at_hand : S → ℕ) where
+  -- no line was admitted, and nothing was read
+  abbrev cut_unread : (settings : Settings) (slots : List (Slot S)) (places sizes : List ℕ) (view : View) (lines : List (List ℕ))
+      → ((s : S) → IfSome (list s) HasEachOnce) → length sizes ≡ length slots → All (λ size. size ≤ 200000) sizes
+      → CutOver settings (sources_in list at_hand slots places sizes) (map (of_slot counts) slots) (map (of_slot counts) slots) view lines
+  cut_unread settings slots places sizes view lines once many small = record {
+    many = length-map slots (of_slot counts) ∙ sym (length-map slots (of_slot list));
+    later = counts_same list counts at_hand slots;
+    admitted = 0;
+    stages = [];
+    readies = [];
+    are = refl;
+    cut = cut_uncalled list counts at_hand settings sizes [] slots once many small;
+  }
+
+  -- so memory was wanting before the first was
+  pub stops_unread : (settings : Settings) (slots : List (Slot S)) (places sizes : List ℕ) (view : View) (lines : List (List ℕ)) (First : Type 0)
+      → ((s : S) → IfSome (list s) HasEachOnce) → length sizes ≡ length slots → All (λ size. size ≤ 200000) sizes → All IsUnread (map (of_slot counts) slots)
+      → StopsOver settings (sources_in list at_hand slots places sizes) (map (of_slot counts) slots) view lines First
+  stops_unread settings slots places sizes view lines First once many small unread =
+      (map (of_slot counts) slots, unread, cut_unread settings slots places sizes view lines once many small, λ some. let none : 0 < 0 = some in absurd (omega (arith, none)))
+
+  pub reads_unread : (settings : Settings) (slots : List (Slot S)) (places sizes : List ℕ) (view : View) (lines : List (List ℕ))
+      → ((s : S) → IfSome (list s) HasEachOnce) → length sizes ≡ length slots → All (λ size. size ≤ 200000) sizes
+      → CutOver settings (sources_in list at_hand slots places sizes) (map (of_slot counts) slots) (map (of_slot counts) slots) view lines
+  reads_unread = cut_unread
+
+-- ---- the run
+
+pub cut_run : (catalog : List Entry) (lines : List (List ℕ)) (lists : List ℕ → Option (List Row)) (versions : List ℕ → Option ℕ) (settings : Settings)
+    (before mid after : Counted) (openings : List Opening) (s : Sources) (now : List Counts)
+    → AreOpened lists versions catalog (IsWanted catalog lines) before mid openings s → ((place : List ℕ) → GivesNothing (before place) (mid place))
+    → StopsOver settings s now (view_over catalog openings nothing_told) lines ((length openings ≡ length catalog) × AsksWantedOnce catalog lines before mid)
+    → PutsBack (reverse (put_back catalog s.places now)) mid after
+    → IsCutRun (record { catalog = catalog; lines = lines; lists = lists; versions = versions; settings = settings; before = before; after = after })
+cut_run catalog lines lists versions settings before mid after openings s now are idle stops back = record {
+  openings = openings;
+  sources = s;
+  mid = mid;
+  idle = idle;
+  opened = are;
+  begun = stops.0;
+  unread = stops.1;
+  now = now;
+  read = stops.2;
+  first = stops.3;
+  back = back;
+}
+
+-- a run for which memory was wanting before a source was taken
+pub cut_before : (catalog : List Entry) (lines : List (List ℕ)) (lists : List ℕ → Option (List Row)) (versions : List ℕ → Option ℕ) (settings : Settings)
+    (at : Counted)
+    → IsCutRun (record { catalog = catalog; lines = lines; lists = lists; versions = versions; settings = settings; before = at; after = at })
+cut_before catalog lines lists versions settings at =
+    cut_run catalog lines lists versions settings at at at [] (record { told = []; versions = []; places = []; counts = [] }) []
+    (opened_none lists versions catalog (IsWanted catalog lines) at) (λ place. still (at place))
+    (stops_unread (λ (n : ℕ). None) (λ (n : ℕ). no_counts) (λ (n : ℕ). 0) settings [] [] [] (view_over catalog [] nothing_told) lines _ (λ n. tt) refl
+    (All-nil (λ size. size ≤ 200000)) none_unread)
+    (record { texts = λ place. refl; takes = λ place. refl; taken = λ place. refl; returned = λ place. refl; sources = λ place. refl })
+
+-- where memory was refused
+pub if_short : {A E P : Type 0} (r : Result A E) → P → OnErr r P
+if_short (Ok x) p = tt
+if_short (Err e) p = p
+
+pub short_too : {A E P Q : Type 0} (r : Result A E) → OnErr r P → (P → Q) → OnErr r Q
+short_too (Ok x) h f = tt
+short_too (Err e) h f = f h
