@@ -140,13 +140,6 @@ module _ {S : Type 0} where
       ∙ (append_assoc workers (hand.worker ∷ []) (map (λ (h : Hand S). h.worker) (reverse left))
       ∙ (ap (λ (hs : List (Hand S)). workers ++ map (λ (h : Hand S). h.worker) hs) (sym (ap reverse last ∙ reverse-append left (hand ∷ []))) ∙ was))
 
-  pub passes_stay : (pool : List TableId) (workers : ℕ) (readies : List Ready) (hands left : List (Hand S)) (share : TableId × Hold (Began S))
-      → AllHands pool workers readies hands left → All (λ (hand : Hand S). hand.pass ≡ share) hands → All (λ (hand : Hand S). hand.pass ≡ share) left
-  passes_stay pool workers readies hands left share all were i d l =
-      let size = all.size in
-      let there : i < length hands = omega (arith, size, l) in
-      all.passes i d there ∙ were i d there
-
 module _ {S : Type 0} (list : S → Option (List Row)) (counts : S → Counts) (calls : S → Option (List Call)) (at_hand : S → ℕ) (states : S → Option ℕ) where
   -- what was served at a slot is what a fetcher does
   fetches_of : (pool : List TableId) (settings : Settings) (before now : Slot S) → IsServed list counts calls at_hand states pool settings.page settings.ahead before now

@@ -2,7 +2,7 @@
 use Rattle.std.proofs.Common.{◌≡◌, ◌≤◌, ◌<◌, ◌+◌, ◌%◌, ◌==◌, inl, inr, ℕ, zero, suc, Bool, true, false, cond, List, [], ◌∷◌, length, map, slice_index_or, Contains, refl, ap, subst, arith}
 use Rattle.std.specs.List.{sum_by}
 use Rattle.std.proofs.lemmas.List.Sums.{sum_by-cons}
-use Rattle.topk_theory.proofs.AgreementLists.{contains_here, contains_there, contains_cases, contains_map, contains_map_from}
+use Rattle.topk_theory.proofs.AgreementLists.{contains_here, contains_there, contains_cases}
 use Rattle.batch_run.specs.Shares.{share_from}
 
 pub record Picked {A B : Type 0} (P : ℕ → A → B → Type 0) (xs : List A) : Type 0 where
@@ -64,9 +64,3 @@ long_by false x share n l = omega (arith, l)
 pub share_long : {X : Type 0} (w i p : ℕ) (xs : List X) → length (share_from w i p xs) ≤ length xs
 share_long w i p [] = omega arith
 share_long w i p (x ∷ xs) = long_by (p % w == i) x (share_from w i (p + 1) xs) (length xs) (share_long w i (p + 1) xs)
-
-pub member_mapped : {X Y : Type 0} (f : X → Y) (xs ys : List X) → ((x : X) → Contains xs x → Contains ys x) → (y : Y) → Contains (map f xs) y
-    → Contains (map f ys) y
-member_mapped f xs ys within y c =
-    let from = contains_map_from f xs y c in
-    subst (Contains (map f ys)) from.2 (contains_map f ys from.0 (within from.0 from.1))

@@ -123,7 +123,7 @@ impl Crew {
             uses: Vec::new(alloc),
         };
         let Ok(()) = make_room(&mut crew.endings, queries, &mut crew.uses, counts.len()) else {
-            drop(crew);
+            crew.let_go();
             return Err(Memory);
         };
         let Ok(()) = hire(
@@ -133,9 +133,12 @@ impl Crew {
             &mut crew.workers,
             workers,
         ) else {
-            drop(crew);
+            crew.let_go();
             return Err(Memory);
         };
         Ok(crew)
     }
+
+    /// Lets a crew go. Who owns one lets it go by this call, so that it is proved once.
+    pub fn let_go(self) {}
 }

@@ -1,10 +1,9 @@
 //! The two sides of a run: the fetchers, and the workers.
 
-ghost use Rattle.std.specs.Prelude.{◌≡◌, ◌≤◌, ◌<◌, ◌^◌, [], All, IfSome, IfNone, length, vec_len, vec_capacity};
+ghost use Rattle.std.specs.Prelude.{◌≡◌, ◌≤◌, ◌<◌, ◌^◌, All, length, vec_len};
 ghost use Rattle.limits.specs.Ranges.{AreSettings};
-ghost use Rattle.keyed_lock.specs.Hold.{all_parts};
 ghost use Rattle.fetcher.specs.Metering.{nothing};
-ghost use Rattle.fetcher.specs.Posting.{ArePosts, AreServed, share_of};
+ghost use Rattle.fetcher.specs.Posting.{ArePosts, share_of};
 ghost use Rattle.batch_run.specs.Working.{IsAtWork, AllWorked};
 ghost use Rattle.batch_run.specs.Slots.{HasFeeder, AllFetch};
 ghost use Rattle.batch_run.specs.Handing.{AllHands, AreSpared};

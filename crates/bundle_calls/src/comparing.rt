@@ -1,6 +1,6 @@
 //! The command `compare`: a bundle, and what each algorithm reads for its query.
 
-ghost use Rattle.std.specs.Prelude.{◌≡◌, ◌≤◌, ◌++◌, ℕ, List, IfOk};
+ghost use Rattle.std.specs.Prelude.{◌≡◌, ◌≤◌, ℕ, List, IfOk};
 ghost use Rattle.bundle_text.specs.Bundle.{content, IsBundle};
 ghost use Rattle.tk_io.specs.Pieces.{Puts};
 ghost use Rattle.query_admission.specs.Admission.{IsAdmitted};

@@ -1,6 +1,6 @@
 //! A machine that is driven over lists that are told.
 
-ghost use Rattle.std.specs.Prelude.{◌≡◌, ◌≤◌, length, OnOk, IfErr};
+ghost use Rattle.std.specs.Prelude.{◌≡◌, length, OnOk, IfErr};
 ghost use Rattle.ranked_list.specs.Table.{IsTable};
 ghost use Rattle.monotone_fn.specs.Shape.{list_count};
 ghost use Rattle.query_core.specs.Ready.{IsReady};

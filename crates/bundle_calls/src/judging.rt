@@ -1,10 +1,9 @@
 //! The command `judge`: a certificate and what is told of it.
 
 ghost use Rattle.std.specs.Prelude.{◌≡◌, ◌≤◌, ◌<◌, ◌^◌, ℕ, List, length};
-ghost use Rattle.cert_judge.specs.Text.{told_text};
 ghost use Rattle.call_ends.specs.Shelves.{Shelf};
 ghost use Rattle.call_ends.specs.Calls.{input_as, output_as, outside_of, call_at};
-ghost use Rattle.call_ends.specs.Ends.{EndsReading, Says};
+ghost use Rattle.call_ends.specs.Ends.{EndsReading};
 ghost use Rattle.bundle_calls.specs.Judge.{JudgeReplies, told_status};
 ghost use Rattle.bundle_calls.specs.Outcomes.{SaysReply};
 
@@ -46,20 +45,13 @@ fn judge_bytes<K: Sink>(alloc: Global, bytes: &[u8], out: &mut K) -> Status
     ensures says { SaysReply JudgeReplies bytes.now (output_as K.held K.faults out.old) (output_as K.held K.faults out.new) result }
 {
     match judge_text(alloc, bytes) {
-        Ok(told) => write_judged(out, &told),
+        Ok(told) => {
+            let status = told_status(&told);
+            let written = write_told(out, &told);
+            ended(written, status)
+        }
         Err(_) => Status::Memory,
     }
-}
-
-/// Writes what is told, and ends so, or with a write fault.
-fn write_judged<K: Sink>(out: &mut K, told: &Judgement) -> Status
-    ensures counts { K.faults out.old ≤ K.faults out.new }
-    ensures says { Says (output_as K.held K.faults out.old) (output_as K.held K.faults out.new)
-        (told_text told.now) (told_status told.now) result }
-{
-    let status = told_status(told);
-    let written = write_told(out, told);
-    ended(written, status)
 }
 
 /// How a call ends that wrote what is told: done exactly where the answer is fixed.

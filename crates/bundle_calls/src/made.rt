@@ -1,6 +1,6 @@
 //! The command `make`: a made table.
 
-ghost use Rattle.std.specs.Prelude.{◌≡◌, ◌≤◌, ℕ, List};
+ghost use Rattle.std.specs.Prelude.{◌≤◌, ℕ, List};
 ghost use Rattle.call_ends.specs.Shelves.{Shelf};
 ghost use Rattle.call_ends.specs.Calls.{Input, output_as, outside_of, call_at};
 ghost use Rattle.call_ends.specs.Ends.{EndsWriting};

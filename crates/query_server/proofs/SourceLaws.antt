@@ -1,7 +1,7 @@
 -- What is left of the sources.
 use Rattle.std.proofs.Common.{◌≡◌, ◌<◌, ℕ, Option, None, List, All, length, slice_index_or, slice_set, refl, sym, ap, subst, ◌∙◌, inl, inr, arith}
 use Rattle.std.proofs.lemmas.Bool.Decides.{eqb_tells}
-use Rattle.std.proofs.lemmas.List.{length-set, get_or-set_same, get_or-set_other}
+use Rattle.std.proofs.lemmas.List.{length-set, get_or-set_same, get_or-set_other, get_or_default}
 use Rattle.ranked_list.specs.declared.row.Row.{Row}
 use Rattle.source_api.specs.declared.counts.Counts.{Counts}
 use Rattle.source_api.specs.Counting.{NoneFell}
@@ -10,7 +10,6 @@ use Rattle.atomic_table.specs.Seated.{TableId}
 use Rattle.limits.specs.declared.settings.Settings.{Settings}
 use Rattle.fetcher.specs.declared.slot.Slot.{Slot}
 use Rattle.source_pool.specs.Passes.{Feed}
-use Rattle.batch_result.proofs.Places.{same_at}
 use Rattle.batch_run.specs.Slots.{SlotState, AllFetch, AreLent, AreTakenBack}
 use Rattle.query_server.specs.Serving.{KeepsSources}
 
@@ -52,13 +51,13 @@ module _ {S : Type 0} (list : S → Option (List Row)) (counts : S → Counts) w
         size = length-set before at new;
         lists = λ i d l. elim (eqb_tells at i) [
           | inl same ↦ subst (λ j. list (slice_index_or (slice_set before at new) j d).source ≡ list (slice_index_or before j d).source) same.1
-              (ap (λ (s : Slot S). list s.source) (get_or-set_same before at new d within) ∙ (told ∙ ap (λ (s : Slot S). list s.source) (same_at before at x d within)))
+              (ap (λ (s : Slot S). list s.source) (get_or-set_same before at new d within) ∙ (told ∙ ap (λ (s : Slot S). list s.source) (get_or_default before at x d within)))
           | inr apart ↦ ap (λ (s : Slot S). list s.source) (get_or-set_other before at i new d (λ q. apart.1 (sym q)))
         ];
         later = λ i d l. elim (eqb_tells at i) [
           | inl same ↦ subst (λ j. NoneFell (counts (slice_index_or before j d).source) (counts (slice_index_or (slice_set before at new) j d).source)) same.1
               (subst (λ (s : Slot S). NoneFell (counts (slice_index_or before at d).source) (counts s.source)) (sym (get_or-set_same before at new d within))
-              (subst (λ (s : Slot S). NoneFell (counts s.source) (counts source)) (same_at before at x d within) later))
+              (subst (λ (s : Slot S). NoneFell (counts s.source) (counts source)) (get_or_default before at x d within) later))
           | inr apart ↦ subst (λ (s : Slot S). NoneFell (counts (slice_index_or before i d).source) (counts s.source)) (sym (get_or-set_other before at i new d (λ q. apart.1 (sym q))))
               (none_fell_same (counts (slice_index_or before i d).source))
         ];

@@ -3,7 +3,6 @@
 ghost use Rattle.std.specs.Prelude.{◌≡◌, true, codes, Some, option_copied, Err};
 ghost use Rattle.std.specs.Str.{bytes_eq};
 ghost use Rattle.wire.specs.Writing.{has_reason, reply_text};
-ghost use Rattle.source_node.specs.Refusals.{status_of, body_of};
 ghost use Rattle.query_server.specs.Entries.{view_in, MayAnswer};
 ghost use Rattle.batch_run.specs.Working.{KnowsAll};
 ghost use Rattle.query_server.specs.Answers.{Remembers};

@@ -75,7 +75,7 @@ fn serve_generation<W: Threads + Wait + Sync, S: Source, L: Link + Send + Drop>(
         return Err(Memory);
     };
     serve_crew(rt, alloc, catalog, &mut crew, slots, queue, settings);
-    drop(crew);
+    crew.let_go();
     Ok(())
 }
 

@@ -49,7 +49,7 @@ pub(crate) fn tell_line(
             let text = line_text(alloc, &outcome);
             let answered = is_answer(&outcome.outcome);
             let moved = is_moved(&outcome.outcome);
-            drop(outcome);
+            let_line_go(outcome);
             match text {
                 Ok(text) => Ok(ToldLine {
                     text,
@@ -62,6 +62,18 @@ pub(crate) fn tell_line(
         Err(_) => Err(source_node::Refusal::NoMemory),
     }
 }
+
+/// Lets what became of a line go.
+fn let_line_go(line: LineOutcome) {
+    let LineOutcome { query, outcome, .. } = line;
+    if let Some(query) = query {
+        query.let_go();
+    }
+    let_outcome_go(outcome);
+}
+
+/// Lets an outcome go. What falls out of scope here is written out once, where `drop` would bring a function for each type under it.
+fn let_outcome_go(_outcome: Outcome) {}
 
 /// Whether an outcome is an answer.
 fn is_answer(outcome: &Outcome) -> bool
@@ -134,7 +146,7 @@ fn run_ready(
     ensures writable { IfOk result CanBeWritten }
 {
     let Ok(ended) = run_query(rt, alloc, pool, pass, &ready) else {
-        drop(ready);
+        ready.query.let_go();
         return Err(Memory);
     };
     line_ended(ready, ended)

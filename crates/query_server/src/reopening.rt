@@ -3,7 +3,7 @@
 ghost use Rattle.std.specs.Prelude.{◌≡◌, ◌<◌, ℕ, length, Some, None, All, IfOk};
 ghost use Rattle.source_api.specs.Counting.{NoneFell};
 ghost use Rattle.query_server.specs.Entries.{IsSized};
-ghost use Rattle.query_server.specs.Homes.{AreHomes, AreAtHome, IsAtHome, home_at, entry_at};
+ghost use Rattle.query_server.specs.Homes.{AreHomes, AreAtHome, IsAtHome};
 ghost use Rattle.query_server.specs.Serving.{KeepsSources};
 
 use super::opened::OpenedEntry;

@@ -1,6 +1,6 @@
 //! The text of what became of a query line, in memory.
 
-ghost use Rattle.std.specs.Prelude.{◌≡◌, [], IfOk};
+ghost use Rattle.std.specs.Prelude.{◌≡◌, IfOk};
 ghost use Rattle.line_outcome.specs.LineOutcomes.{CanBeWritten};
 ghost use Rattle.query_server.specs.Becoming.{line_text};
 

@@ -1,4 +1,5 @@
-//! Tests of the command `run` over catalogs and sources in memory: rows that were worked out by hand, and each fault in turn.
+//! Tests of the words of a command line, and of the command `run` over catalogs and sources in memory: rows that were worked out by hand, and each
+//! fault in turn.
 #![tactic(auto)]
 
 #[cfg(test)]
@@ -19,6 +20,8 @@ mod faults;
 mod outcomes;
 #[cfg(test)]
 mod refusals;
+#[cfg(test)]
+mod words;
 
 #[cfg(test)]
 use std::process::Abort;

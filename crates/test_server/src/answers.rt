@@ -1,8 +1,8 @@
 //! Query lines that come to an outcome.
 
 use super::none_is_wrong;
-use super::server_visits::{NO_QUERY, first_other};
-use super::visits::{CLOSE, OK, Parts};
+use super::server_visits::{NO_QUERY, OK, first_other};
+use test_mem_source::visits::{CLOSE, Parts};
 
 /// The end of a head.
 const END: &[u8] = b" HTTP/1.1\r\nHost: h\r\n\r\n";

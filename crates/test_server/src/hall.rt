@@ -6,7 +6,6 @@ ghost use Rattle.query_server.specs.Homes.{AreHomes, home_of};
 ghost use Rattle.test_server.specs.Four.{four_entries};
 
 use super::desk::open_lists;
-use super::visits::{Parts, joined};
 use fetcher::Slot;
 use limits::Settings;
 use query_server::{Served, serve_all};
@@ -14,6 +13,7 @@ use source_api::Source;
 use std::alloc::Global;
 use std::sync::{OnceLock, Wait};
 use std::thread::Threads;
+use test_mem_source::visits::{Parts, joined};
 use test_mem_source::{Held, Kind, MemSource, source_of};
 use tk_io::{MemLink, Port, Share};
 

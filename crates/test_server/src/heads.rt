@@ -1,11 +1,11 @@
 //! Requests to the query server that are refused by their heads, by the first cause.
 
 use super::server_visits::{NO_QUERY, comes_to, first_other};
-use super::visits::{BAD, NO_HEAD, NOT_ALLOWED, NOT_FOUND, Parts, TOO_LARGE};
 use super::{holds, none_is_wrong};
 use std::alloc::Global;
 use std::sync::Wait;
 use std::thread::Threads;
+use test_mem_source::visits::{BAD, NO_HEAD, NOT_ALLOWED, NOT_FOUND, Parts, TOO_LARGE};
 
 /// The end of a head.
 const END: &[u8] = b" HTTP/1.1\r\nHost: h\r\n\r\n";

@@ -1,11 +1,12 @@
-//! Tests of what serves at a port, by its public calls, over links and sources in memory.
+//! Tests of the query server by its public calls, over links and sources in memory.
 //!
-//! They have requests to a node and to the query server with their replies, to the byte; which links are taken; connections at the same time;
-//! generations.
+//! They have requests with their replies, to the byte; which links are taken; connections at the same time; generations.
 #![tactic(auto)]
 
 #[cfg(test)]
 mod answers;
+#[cfg(test)]
+mod asked;
 #[cfg(test)]
 mod desk;
 #[cfg(test)]
@@ -17,23 +18,11 @@ mod heads;
 #[cfg(test)]
 mod links;
 #[cfg(test)]
-mod node_answers;
-#[cfg(test)]
-mod node_faults;
-#[cfg(test)]
-mod node_heads;
-#[cfg(test)]
-mod node_queries;
-#[cfg(test)]
-mod node_visits;
-#[cfg(test)]
 mod ports;
 #[cfg(test)]
 mod server_visits;
 #[cfg(test)]
 mod together;
-#[cfg(test)]
-mod visits;
 #[cfg(test)]
 mod waiters;
 

@@ -5,13 +5,13 @@ ghost use Rattle.source_pool.specs.Passes.{IsIdleOf};
 ghost use Rattle.query_server.specs.Entries.{MayAnswer};
 
 use super::desk::{open_lists, opened_may_answer};
-use super::visits::{CLOSE, OK, Parts, joined, link_of, status_in};
 use fetcher::Stop;
 use query_server::{Answers, ConnEnd, Opened, Turn, serve_conn};
 use source_pool::{Feeder, Pool, PoolPass};
 use std::alloc::Global;
 use std::sync::Wait;
 use std::thread::{Threads, join_mut};
+use test_mem_source::visits::{CLOSE, Parts, joined, link_of, status_in};
 use test_mem_source::{Held, Kind, MemSource, source_of};
 use test_query_support::{Pair, fetch_till_set};
 use tk_io::MemLink;
@@ -28,6 +28,9 @@ const B: Held = Held {
     rows: &[(2, 700), (3, 600), (1, 500)],
     kind: Kind::Honest,
 };
+
+/// The front of a reply of the query server with an outcome.
+pub(crate) const OK: &[u8] = b"HTTP/1.1 200 OK\r\nContent-Type: text/plain\r\n";
 
 /// The reply to a line of no bytes.
 pub(crate) const NO_QUERY: Parts = &[

@@ -1,9 +1,10 @@
 //! Replies that are cut after each of their bytes.
 
 use super::holds;
-use super::stepping::{Call, Gives, call_gives, joined, source_over};
+use super::stepping::{Call, Gives, call_gives, source_over};
 use source_api::{FailKind, Trouble};
 use std::alloc::Global;
+use test_mem_source::visits::joined;
 use tk_io::{MemDial, MemLink};
 
 /// Whether a call for one row over a link of these bytes gives this.

@@ -1,4 +1,5 @@
-//! Tests of sources and shelves by their public calls: in memory, from list files, and over HTTP by dials in memory.
+//! Tests of sources and shelves by their public calls: in memory, from list files, and over HTTP by dials in memory; and of a node, which serves a
+//! source over links in memory, to the byte.
 #![tactic(auto)]
 
 #[cfg(test)]
@@ -15,6 +16,16 @@ mod in_memory;
 mod link_faults;
 #[cfg(test)]
 mod list_files;
+#[cfg(test)]
+mod node_answers;
+#[cfg(test)]
+mod node_faults;
+#[cfg(test)]
+mod node_heads;
+#[cfg(test)]
+mod node_queries;
+#[cfg(test)]
+mod node_visits;
 #[cfg(test)]
 mod sessions;
 #[cfg(test)]

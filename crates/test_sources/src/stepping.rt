@@ -7,11 +7,9 @@ use http_source::HttpSource;
 use ranked_list::Row;
 use source_api::{Source, Trouble};
 use std::alloc::Global;
+use test_mem_source::visits::{Parts, joined};
 use tk_io::{Ended, MemDial, MemLink, Memory};
 use wire::Place;
-
-/// The parts of a message, one after another.
-pub(crate) type Parts = &'static [&'static [u8]];
 
 /// Rows, each as its object and its grade.
 pub(crate) type Pairs = &'static [(u32, u32)];
@@ -38,17 +36,6 @@ pub(crate) type Step = (Call, &'static [u8], Parts, Gives);
 
 /// How many bytes one read gives: all of a message, or one.
 static PIECES: &[u32] = &[1_000_000, 1];
-
-/// The bytes of the parts, or None where no memory was left.
-pub(crate) fn joined(alloc: Global, parts: &[&[u8]]) -> Option<Vec<u8>> {
-    let mut bytes = Vec::new(alloc);
-    for part in parts {
-        let Ok(()) = bytes.extend_from_slice(part) else {
-            return None;
-        };
-    }
-    Some(bytes)
-}
 
 /// A link that brings these bytes, with room for every request.
 fn link(alloc: Global, parts: &[&[u8]], piece: u32) -> Result<MemLink, Memory>

@@ -23,7 +23,7 @@ fn low_and_high(expr: &Expr, known: &[Option<u32>], bottoms: &[u32]) -> Option<(
 fn bounds_of_copy(alloc: Global, sum: &Expr) -> Option<(u64, u64)> {
     let copy = sum.copy(alloc).ok()?;
     let bounds = low_and_high(&copy, &[Some(300), None], &[900, 800]);
-    drop(copy);
+    copy.let_go();
     bounds
 }
 

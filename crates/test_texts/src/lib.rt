@@ -1,4 +1,4 @@
-//! Tests of texts: lines, bundles, query lines, certificates, catalogs and places, and the words of a command line.
+//! Tests of texts: lines, bundles, query lines, certificates, catalogs and places.
 #![tactic(auto)]
 
 #[cfg(test)]
@@ -43,8 +43,6 @@ mod tables;
 mod values;
 #[cfg(test)]
 mod weights;
-#[cfg(test)]
-mod words;
 
 #[cfg(test)]
 use cert_text::Outcome;

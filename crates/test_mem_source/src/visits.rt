@@ -1,21 +1,18 @@
-//! Requests and replies, and links in memory for them.
+//! The parts of requests and replies, the replies that refuse a request, and links in memory.
 
 use std::alloc::Global;
 use tk_io::MemLink;
 
 /// The parts of a message, one after another.
-pub(crate) type Parts = &'static [&'static [u8]];
-
-/// The front of a reply of the query server with an outcome.
-pub(crate) const OK: &[u8] = b"HTTP/1.1 200 OK\r\nContent-Type: text/plain\r\n";
+pub type Parts = &'static [&'static [u8]];
 
 /// A line of the replies in plain text, and the end of each head.
-pub(crate) const PLAIN: &[u8] = b"Content-Type: text/plain\r\n";
+pub const PLAIN: &[u8] = b"Content-Type: text/plain\r\n";
 
-pub(crate) const CLOSE: &[u8] = b"Connection: close\r\n\r\n";
+pub const CLOSE: &[u8] = b"Connection: close\r\n\r\n";
 
 /// The replies that say why there is nothing else.
-pub(crate) const BAD: Parts = &[
+pub const BAD: Parts = &[
     b"HTTP/1.1 400 Bad Request\r\n",
     PLAIN,
     b"Content-Length: 12\r\n",
@@ -23,7 +20,7 @@ pub(crate) const BAD: Parts = &[
     b"Bad Request\n",
 ];
 
-pub(crate) const NOT_FOUND: Parts = &[
+pub const NOT_FOUND: Parts = &[
     b"HTTP/1.1 404 Not Found\r\n",
     PLAIN,
     b"Content-Length: 10\r\n",
@@ -31,7 +28,7 @@ pub(crate) const NOT_FOUND: Parts = &[
     b"Not Found\n",
 ];
 
-pub(crate) const NOT_ALLOWED: Parts = &[
+pub const NOT_ALLOWED: Parts = &[
     b"HTTP/1.1 405 Method Not Allowed\r\n",
     PLAIN,
     b"Allow: GET\r\nContent-Length: 19\r\n",
@@ -39,14 +36,14 @@ pub(crate) const NOT_ALLOWED: Parts = &[
     b"Method Not Allowed\n",
 ];
 
-pub(crate) const NO_HEAD: Parts = &[
+pub const NO_HEAD: Parts = &[
     b"HTTP/1.1 405 Method Not Allowed\r\n",
     PLAIN,
     b"Allow: GET\r\n",
     CLOSE,
 ];
 
-pub(crate) const TOO_LARGE: Parts = &[
+pub const TOO_LARGE: Parts = &[
     b"HTTP/1.1 431 Request Header Fields Too Large\r\n",
     PLAIN,
     b"Content-Length: 32\r\n",
@@ -55,7 +52,7 @@ pub(crate) const TOO_LARGE: Parts = &[
 ];
 
 /// The bytes of the parts, or None where no memory was left.
-pub(crate) fn joined(alloc: Global, parts: &[&[u8]]) -> Option<Vec<u8>> {
+pub fn joined(alloc: Global, parts: &[&[u8]]) -> Option<Vec<u8>> {
     let mut bytes = Vec::new(alloc);
     for part in parts {
         let Ok(()) = bytes.extend_from_slice(part) else {
@@ -66,7 +63,7 @@ pub(crate) fn joined(alloc: Global, parts: &[&[u8]]) -> Option<Vec<u8>> {
 }
 
 /// A link that gives these parts, so many bytes in one read, has room for any reply, and fails these of its reads and writes.
-pub(crate) fn link_of(
+pub fn link_of(
     alloc: Global,
     parts: &[&[u8]],
     piece: u32,
@@ -97,7 +94,7 @@ static STATUSES: &[(&[u8], u16)] = &[
 ];
 
 /// The status that stands in a reply.
-pub(crate) fn status_in(reply: &[u8]) -> Option<u16> {
+pub fn status_in(reply: &[u8]) -> Option<u16> {
     for (front, status) in STATUSES {
         if reply.starts_with(front) {
             return Some(*status);

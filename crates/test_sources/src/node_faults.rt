@@ -1,10 +1,10 @@
 //! Each call of a source, and each read and write of a link, failing in turn.
 
 use super::node_visits::{A, FAILED, OK, comes_to};
-use super::visits::{CLOSE, Parts, joined};
 use super::{holds, none_is_wrong};
 use source_node::{ConnEnd, node_conn};
 use std::alloc::Global;
+use test_mem_source::visits::{CLOSE, Parts, joined};
 use test_mem_source::{Held, Kind, source_of};
 use tk_io::MemLink;
 

@@ -1,6 +1,6 @@
 use Rattle.std.proofs.Common.{◌≡◌, ◌≤◌, All, vec_len, vec_capacity}
 use Rattle.tk_io.specs.LinksInMemory.{IsUnused}
-use Rattle.test_server.proofs.generations.ask_all.Given as goal
+use Rattle.test_server.proofs.asked.ask_all.Given as goal
 
 -- there is a link and a share for each request so far, and room for the others
 abbrev pub invariant-loop-place : goal.invariant-loop-place

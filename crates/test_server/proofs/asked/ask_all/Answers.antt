@@ -1,7 +1,7 @@
 use Rattle.std.proofs.Common.{All, arith, subst, sym}
 use Rattle.std.proofs.lemmas.List.Elements.{All-push}
 use Rattle.tk_io.specs.LinksInMemory.{IsUnused}
-use Rattle.test_server.proofs.generations.ask_all.Goals as goal
+use Rattle.test_server.proofs.asked.ask_all.Goals as goal
 
 pub loop-place-preserved : goal.loop-place-preserved
 loop-place-preserved c =

@@ -2,8 +2,8 @@
 
 use super::node_visits::{A, FAILED, OK, replies};
 use super::none_is_wrong;
-use super::visits::{CLOSE, Parts};
 use std::alloc::Global;
+use test_mem_source::visits::{CLOSE, Parts};
 use test_mem_source::{Held, Kind, Move, source_of};
 
 /// The requests for the size, for a page, and for a grade.

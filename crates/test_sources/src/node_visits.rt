@@ -1,8 +1,8 @@
 //! Requests to a node of the list A over a link in memory, and their replies.
 
-use super::visits::{CLOSE, PLAIN, Parts, joined, link_of, status_in};
 use source_node::{ConnEnd, node_conn};
 use std::alloc::Global;
+use test_mem_source::visits::{CLOSE, PLAIN, Parts, joined, link_of, status_in};
 use test_mem_source::{Held, Kind, MemSource, source_of};
 use tk_io::MemLink;
 

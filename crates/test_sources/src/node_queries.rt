@@ -2,7 +2,7 @@
 
 use super::node_visits::{OK, first_other};
 use super::none_is_wrong;
-use super::visits::{BAD, CLOSE, Parts};
+use test_mem_source::visits::{BAD, CLOSE, Parts};
 
 /// The call for a page, the call for a grade, and the end of a head.
 const PAGE: &[u8] = b"GET /lists/A/page?";
