@@ -50,11 +50,13 @@ test:
 
 # Each allocation of an answer, a run, a certificate's reading and a counter table refused in turn, which `make test` does too.
 fail-alloc: topk
-	python3 tests/run.py --program ./topk starved_one starved_run starved_judge starved_counter_table
+	python3 tests/run.py --program ./topk starved_one starved_run starved_run_from_there_on starved_judge starved_counter_table
 
-# Queries over made tables, each algorithm and size, and how long a page over HTTP takes to be read: some minutes, and no other work beside it.
+# Queries over made tables, each algorithm and size, over bundles and over list files, and how long a page over HTTP takes to be read: some minutes,
+# and no other work beside it.
 bench: topk
 	bench/bench.py
+	bench/files.py
 	cd crates/bench_http && rt run < stdin
 	bench/http.py
 	bench/nodes.py

@@ -8,11 +8,13 @@ import contextlib
 import os
 import pathlib
 import re
+import socket
 import socketserver
+import struct
 import subprocess
 import tempfile
 import threading
-from collections.abc import Callable, Iterator
+from collections.abc import Callable, Iterable, Iterator
 
 import bridges
 from machine import SECONDS, free_port, over_network
@@ -39,6 +41,19 @@ s B 3 600
 r A 3 100
 end
 """
+# What a line over B comes to that is the second.
+B_ENDS = b"""certificate 2
+query top 3 by B using nra
+count 3
+answer 2 700 700
+answer 3 600 600
+answer 1 500 500
+stop depth 3 sorted 3 random 0 cost 3
+s B 2 700
+s B 3 600
+s B 1 500
+end
+"""
 # What a node replies to one of A's requests, the others being answered well, and what becomes of the line then.
 REPLIES = [
     ("no reply to size", SIZE, b"", b"refused 1 NotOpened A\n"),
@@ -54,9 +69,13 @@ REPLIES = [
     ("a page is short", ROW, bridges.answer('{"rows":[]}'), b"refused 1 ShortList A 3 0\n"),
     ("a grade above the greatest", ROW, bridges.answer('{"rows":[[1,1000001]]}'), b"refused 1 TooHigh A 1 1000001\n"),
     ("a page of another version", ROW, bridges.answer('{"rows":[[1,900]],"version":8}'), b"refused 1 Moved A 0 8\n"),
+    ("a page fails", ROW, b"HTTP/1.1 500 Internal Server Error\r\nContent-Length: 0\r\n\r\n", b"refused 1 Garbled A\n"),
     ("an object isn't there", GRADE, bridges.answer('{"grade":null}'), b"refused 1 Missing A 2\n"),
     ("a grade of another version", GRADE, bridges.answer('{"grade":800,"version":8}'), b"refused 1 Moved A 0 8\n"),
     ("no reply to a grade", GRADE, b"", b"refused 1 Garbled A\n"),
+    ("a grade isn't there", GRADE, b"HTTP/1.1 404 Not Found\r\nContent-Length: 14\r\n\r\n{\"grade\":null}", b"refused 1 Garbled A\n"),
+    ("a grade fails", GRADE, b"HTTP/1.1 500 Internal Server Error\r\nContent-Length: 0\r\n\r\n", b"refused 1 Garbled A\n"),
+    ("a grade above the row before", GRADE, bridges.answer('{"grade":950}'), b"refused 1 Above A 2 950 900\n"),
 ]
 
 
@@ -73,9 +92,20 @@ def answered(target: str, version: int = 0) -> bytes:
     return bridges.answer(f'{{"grade":{dict(LISTS[name])[wanted]}{stated}}}')
 
 
+class Reset(Exception):
+    """Raised for a reply in place of which the connection is broken off."""
+
+
+def break_off(link: socket.socket) -> None:
+    """Ends a connection so that the other end's next call fails."""
+    link.setsockopt(socket.SOL_SOCKET, socket.SO_LINGER, struct.pack("ii", 1, 0))
+    link.close()
+
+
 @contextlib.contextmanager
-def node(reply: Callable[[str, int], bytes]) -> Iterator[tuple[int, list[str]]]:
-    """A node that replies so to the target of each request and its number among those of its list, from 1; its port, and the targets so far."""
+def node(reply: Callable[[str, int], bytes | Iterable[bytes]]) -> Iterator[tuple[int, list[str]]]:
+    """A node that replies so, at once or piece by piece, to the target of each request and its number among those of its list, from 1; its port, and
+    the targets so far. A client that leaves before all is said is its own affair."""
     targets: list[str] = []
     lock = threading.Lock()
 
@@ -89,7 +119,14 @@ def node(reply: Callable[[str, int], bytes]) -> Iterator[tuple[int, list[str]]]:
             with lock:
                 targets.append(words[1])
                 number = sum(it.startswith(words[1][:len("/lists/A/")]) for it in targets)
-            self.wfile.write(reply(words[1], number))
+            try:
+                said = reply(words[1], number)
+                with contextlib.suppress(ConnectionError, TimeoutError):
+                    for piece in [said] if isinstance(said, bytes) else said:
+                        self.wfile.write(piece)
+            except Reset:
+                self.rfile.close()
+                break_off(self.request)
 
     with socketserver.ThreadingTCPServer(("127.0.0.1", 0), Link) as server:
         server.daemon_threads = True
@@ -102,9 +139,14 @@ def node(reply: Callable[[str, int], bytes]) -> Iterator[tuple[int, list[str]]]:
 
 def run_over(program: str, port: int, *words: str) -> subprocess.CompletedProcess:
     """A run of the query over the lists that a host at this port serves."""
+    return run_at(program, dict.fromkeys(LISTS, port), QUERY, *words)
+
+
+def run_at(program: str, ports: dict[str, int], lines: bytes, *words: str) -> subprocess.CompletedProcess:
+    """A run of query lines over lists that hosts at these ports serve."""
     with tempfile.TemporaryDirectory() as place:
-        write(place, "catalog.csv", "name,place,random\n" + "".join(f"{it},http://127.0.0.1:{port}/lists/{it},yes\n" for it in LISTS))
-        return run(program, ["run", *words, "catalog.csv"], QUERY, place)
+        write(place, "catalog.csv", "name,place,random\n" + "".join(f"{it},http://127.0.0.1:{port}/lists/{it},yes\n" for it, port in ports.items()))
+        return run(program, ["run", *words, "catalog.csv"], lines, place)
 
 
 def at_versions(program: str) -> str | None:

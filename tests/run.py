@@ -6,8 +6,9 @@ Use, from anywhere: python3 tests/run.py [--program PATH] [--minutes N] [NAME ..
 Without names all tests run. Each folder of cases/ is one: `words` (a word a line), `input` (standard input, empty where there is none), `files/`
 (copied to where the program runs), `output` (what it has to write) and `status` (0 where there is none). Tests that need more than a folder stand by
 topic: special.py has inputs of 128 MB, full devices and threads that are counted, completions.py the completions for shells, library.py the library
-beside the program, view.py the page that draws certificates, bridges.py the nodes over databases, hosts.py `run` over lists that hosts serve, nodes.py
-`node`, servers.py `serve`, peers.py both with curl, nginx and others, and starving.py those in which each allocation is refused in turn.
+beside the program, view.py the page that draws certificates, bridges.py the nodes over databases, hosts.py `run` over lists that hosts serve,
+bad_hosts.py over hosts that misbehave, nodes.py `node`, servers.py `serve`, peers.py both with curl, nginx and others, sharing.py queries that share
+sources on threads, and starving.py those in which each allocation is refused in turn.
 
 What a machine lacks (machine.py) is skipped by name, as are tests that haven't begun when the minutes are over, so that no machine fails a test.
 Ends with 'N passed, M failed', and with the status 0 exactly where none failed. Standard library alone.
@@ -27,7 +28,7 @@ import traceback
 OLDEST = (3, 9)
 HERE = pathlib.Path(__file__).resolve().parent
 PROGRAM = HERE.parent / "crates" / "topk" / "out" / "topk"
-TOPICS = ("special", "completions", "library", "view", "bridges", "hosts", "nodes", "servers", "peers", "starving")
+TOPICS = ("special", "completions", "library", "view", "bridges", "hosts", "bad_hosts", "nodes", "servers", "peers", "sharing", "starving")
 
 
 def read(path, default):

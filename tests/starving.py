@@ -1,4 +1,6 @@
-"""Each allocation of the program refused in turn: it ends with the status of want of memory and a front of its text, or as if nothing had happened."""
+"""Each allocation of the program refused in turn, alone and with all behind it: it ends with the status of want of memory and a front of its text, or
+as if nothing had happened.
+"""
 import os
 import pathlib
 import shutil
@@ -16,20 +18,20 @@ MOST = 20_000
 CASES = {"starved_one": "one_answered", "starved_run": "run_all_answered", "starved_judge": "judge_fixes", "starved_counter_table": "judge_beaten"}
 
 
-def built(place):
-    """The path of what goes before the program."""
+def built(place, name="starved"):
+    """The path of what goes before the program, as this file of C has it."""
     if not sys.platform.startswith("linux"):
         raise Skipped("there is no Linux")
-    path = os.path.join(place, "starved.so")
-    if peer([path_of("cc", "gcc", "clang"), "-shared", "-fPIC", "-O2", "-o", path, HERE / "starved.c"]).returncode != 0:
+    path = os.path.join(place, f"{name}.so")
+    if peer([path_of("cc", "gcc", "clang"), "-shared", "-fPIC", "-O2", "-o", path, HERE / f"{name}.c", "-ldl"]).returncode != 0:
         raise Skipped("what goes before the program can't be built here")
     return path
 
 
-def starved(program, words, data, place, before, number):
+def starved(program, words, data, place, before, number, more):
     """How the program ends where the allocation of this number is refused, and whether one was."""
     reading, writing = os.pipe()
-    env = dict(os.environ, LD_PRELOAD=before, STARVED_AT=str(number), STARVED_SAYS=str(writing))
+    env = dict(os.environ, LD_PRELOAD=before, STARVED_AT=str(number), STARVED_SAYS=str(writing), **more)
     try:
         done = subprocess.run([program, *words], input=data, capture_output=True, cwd=place, env=env, pass_fds=(writing,), timeout=SECONDS)
     finally:
@@ -48,7 +50,7 @@ def wrong_end(done, refused, status, text):
     return f"ended with {done.returncode} and {done.stdout[:200]!r}, {'one' if refused else 'none'} being refused; {done.stderr[:200]!r}"
 
 
-def each_refused(program, case):
+def each_refused(program, case, **more):
     folder = HERE / "cases" / case
     words = (folder / "words").read_text(encoding="utf-8").splitlines()
     data = (folder / "input").read_bytes()
@@ -59,7 +61,7 @@ def each_refused(program, case):
         if (folder / "files").is_dir():
             shutil.copytree(folder / "files", place, dirs_exist_ok=True)
         for number in range(1, MOST):
-            done, refused = starved(program, words, data, place, before, number)
+            done, refused = starved(program, words, data, place, before, number, more)
             if number == 1 and not refused:
                 raise Skipped("what goes before the program isn't loaded here")
             wrong = wrong_end(done, refused, status, text)
@@ -74,3 +76,4 @@ def each_refused(program, case):
 def tests():
     for name, case in CASES.items():
         yield name, lambda program, case=case: each_refused(program, case)
+    yield "starved_run_from_there_on", lambda program: each_refused(program, CASES["starved_run"], STARVED_ON="yes")
