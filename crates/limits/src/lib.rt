@@ -93,5 +93,8 @@ pub const MAX_BODY: u32 = 16_777_216;
 /// How many seconds a read or a write of a connection may wait without moving a byte.
 pub const MAX_WAIT_SECONDS: u64 = 30;
 
+/// How many seconds the reads of a connection may take from the first one on, and as many its writes.
+pub const MAX_LINK_SECONDS: u64 = 300;
+
 /// How many seconds a connection may take to come about.
 pub const MAX_CONNECT_SECONDS: u64 = 10;

@@ -2,7 +2,10 @@
 
 use super::holds;
 use std::alloc::Global;
+use std::cell::Cell;
+use std::io;
 use std::net::{IpAddr, Ipv4Addr, Net, TcpListener, TcpStream};
+use std::time::{Clock, Duration};
 use tk_io::{Dial, Intake, Link, NetDial, NetPort, Port, Sink, read_text, write_text};
 
 /// Whether what one link writes is what the other one reads next.
@@ -33,12 +36,12 @@ fn connects<P: Port, D: Dial>(alloc: Global, port: &mut P, dial: &mut D, number:
 }
 
 /// Whether a port at a free number is reached by a dial, and no longer once it is gone.
-fn is_reached<R: Net<Listener = TcpListener, Stream = TcpStream> + Copy + Send + Drop>(
+fn is_reached<R: Net<Listener = TcpListener, Stream = TcpStream> + Clock + Copy + Send + Drop>(
     alloc: Global,
     net: R,
 ) -> bool {
-    let mut port = NetPort::make(net, IpAddr::V4(Ipv4Addr::LOCALHOST));
-    let mut dial = NetDial::make(net);
+    let mut port = NetPort::make(net, net, IpAddr::V4(Ipv4Addr::LOCALHOST));
+    let mut dial = NetDial::make(net, net);
     let is_deaf = port.accept().is_err();
     let listens = port.listen(0).is_ok();
     let Some(number) = port.number() else {
@@ -54,4 +57,64 @@ fn is_reached<R: Net<Listener = TcpListener, Stream = TcpStream> + Copy + Send +
 #[test]
 fn a_connection_goes_both_ways(rt: HostRuntime) {
     holds(&rt, is_reached(rt.alloc(), &rt));
+}
+
+/// A clock that shows the seconds which a test sets.
+#[derive(Clone, Copy, Drop)]
+struct SetClock<'a> {
+    seconds: &'a Cell<u64>,
+}
+
+impl<'a> Clock for SetClock<'a> {
+    fn monotonic(&self) -> io::Result<Duration> {
+        Ok(Duration::from_secs(self.seconds.get()))
+    }
+
+    fn since_1970(&self) -> io::Result<Duration> {
+        Ok(Duration::from_secs(self.seconds.get()))
+    }
+}
+
+/// Whether the reads of a link end 300 seconds after the first one, and its writes 300 after theirs. The
+/// other end sends a byte whenever it is read.
+fn ends_in_time<A: Link, B: Link>(seconds: &Cell<u64>, link: &mut A, other: &mut B) -> bool {
+    let mut drips = |at| {
+        seconds.set(at);
+        write_text(other, b"d").is_ok() && link.read(&mut [0]) == Ok(1)
+    };
+    let reads = drips(1000) && drips(1299) && !drips(1300);
+    let mut writes = |at| {
+        seconds.set(at);
+        link.write(b"w") == Ok(1)
+    };
+    reads && writes(1400) && writes(1699) && !writes(1700)
+}
+
+/// Whether a connection that goes on and on ends in time.
+fn is_limited<R: Net<Listener = TcpListener, Stream = TcpStream> + Clock + Copy + Send + Drop>(
+    net: R,
+) -> bool {
+    let seconds = Cell::new(0);
+    let mut port = NetPort::make(net, net, IpAddr::V4(Ipv4Addr::LOCALHOST));
+    let mut dial = NetDial::make(net, SetClock { seconds: &seconds });
+    let listens = port.listen(0).is_ok();
+    let Some(number) = port.number() else {
+        return false;
+    };
+    let Ok(mut client) = dial.dial("127.0.0.1", number) else {
+        return false;
+    };
+    let Ok(Some(mut server)) = port.accept() else {
+        dial.hang_up(client);
+        return false;
+    };
+    let ends = ends_in_time(&seconds, &mut client, &mut server);
+    dial.hang_up(client);
+    port.hang_up(server);
+    listens && ends && dial.fault_count() == 2
+}
+
+#[test]
+fn a_connection_ends_in_time(rt: HostRuntime) {
+    holds(&rt, is_limited(&rt));
 }

@@ -19,6 +19,7 @@ mod port;
 mod sink;
 mod std_intake;
 mod std_sink;
+mod time_limit;
 mod whole;
 mod writer;
 

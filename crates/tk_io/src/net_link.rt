@@ -4,22 +4,27 @@ ghost use Rattle.std.specs.Prelude.{◌≡◌, IfSome};
 
 use super::std_intake::read_once;
 use super::std_sink::write_once;
+use super::time_limit::TimeLimit;
 use super::{Failed, Intake, Link, Sink};
 use limits::MAX_WAIT_SECONDS;
 use std::marker::Model;
 use std::net::TcpStream;
-use std::time::Duration;
+use std::time::{Clock, Duration};
 
 /// A connection of std. It tells no bytes: it is the trusted edge. A read or a write that moves nothing
-/// for too long fails. Contracts see it as its two counts of faults.
+/// for too long fails, and so does one that begins too long after the first one. Contracts see it as its
+/// two counts of faults.
 #[derive(Drop)]
-pub struct NetLink {
+pub struct NetLink<C: Clock + Drop> {
     stream: TcpStream,
+    clock: C,
+    reads: TimeLimit,
+    writes: TimeLimit,
     read_faults: u64,
     write_faults: u64,
 }
 
-impl Model for NetLink {
+impl<C: Clock + Drop> Model for NetLink<C> {
     ghost use Rattle.tk_io.specs.Outside.{Connection};
 
     ghost Value = { Connection };
@@ -27,10 +32,10 @@ impl Model for NetLink {
     ghost view = { λ l. record { read_faults = l.read_faults; write_faults = l.write_faults } };
 }
 
-impl NetLink {
+impl<C: Clock + Drop> NetLink<C> {
     /// The link of a connection, of which no call failed yet. None where the connection takes no limit on
     /// how long it waits.
-    pub fn make(stream: TcpStream) -> Option<NetLink>
+    pub fn make(stream: TcpStream, clock: C) -> Option<NetLink<C>>
         ensures { IfSome result (λ link. link ≡ record { read_faults = 0; write_faults = 0 }) }
     {
         if !limits_waits(&stream) {
@@ -38,6 +43,9 @@ impl NetLink {
         }
         Some(NetLink {
             stream,
+            clock,
+            reads: TimeLimit::make(),
+            writes: TimeLimit::make(),
             read_faults: 0,
             write_faults: 0,
         })
@@ -64,7 +72,7 @@ fn limits_waits(stream: &TcpStream) -> bool {
     stream.set_read_timeout(Some(limit)).is_ok() && stream.set_write_timeout(Some(limit)).is_ok()
 }
 
-impl Intake for NetLink {
+impl<C: Clock + Drop> Intake for NetLink<C> {
     ghost use Rattle.std.specs.Prelude.{None};
 
     ghost left = { λ _. None };
@@ -73,9 +81,13 @@ impl Intake for NetLink {
 
     ghost aside = { λ l. record { bytes = None; faults = l.write_faults } };
 
-    /// Reads once, and again where the call was interrupted. Any other error is a fault.
+    /// Reads once, and again where the call was interrupted. Any other error is a fault, and so is a read
+    /// that begins too late.
     fn read(&mut self, into: &mut [u8]) -> Result<usize, Failed> {
-        let read = read_once(&mut self.stream, into);
+        let read = match self.reads.admits(&self.clock) {
+            true => read_once(&mut self.stream, into),
+            false => Err(Failed),
+        };
         if read.is_err() {
             self.read_faults = self.read_faults.saturating_add(1);
         }
@@ -83,7 +95,7 @@ impl Intake for NetLink {
     }
 }
 
-impl Sink for NetLink {
+impl<C: Clock + Drop> Sink for NetLink<C> {
     ghost use Rattle.std.specs.Prelude.{None};
 
     ghost held = { λ _. None };
@@ -93,9 +105,12 @@ impl Sink for NetLink {
     ghost aside = { λ l. record { bytes = None; faults = l.read_faults } };
 
     /// Writes once, and again where the call was interrupted. Any other error is a fault, and so is a
-    /// write that takes nothing of a piece.
+    /// write that takes nothing of a piece, or that begins too late.
     fn write(&mut self, bytes: &[u8]) -> Result<usize, Failed> {
-        let written = write_once(&mut self.stream, bytes);
+        let written = match self.writes.admits(&self.clock) {
+            true => write_once(&mut self.stream, bytes),
+            false => Err(Failed),
+        };
         if written.is_err() {
             self.write_faults = self.write_faults.saturating_add(1);
         }
@@ -103,7 +118,7 @@ impl Sink for NetLink {
     }
 }
 
-impl Link for NetLink {
+impl<C: Clock + Drop> Link for NetLink<C> {
     ghost use Rattle.std.specs.Prelude.{refl};
 
     ghost reads_apart = { λ _. refl };

@@ -6,18 +6,26 @@ use super::{Failed, NetLink, Port};
 use std::io::ErrorKind;
 use std::marker::Model;
 use std::net::{IpAddr, Net, SocketAddr, TcpListener, TcpStream};
+use std::time::Clock;
 
 /// What listens to the outside at one address. It tells no links, and never ends. Contracts see it as its
 /// count of faults.
 #[derive(Drop)]
-pub struct NetPort<R: Net<Listener = TcpListener, Stream = TcpStream> + Copy + Send + Drop> {
+pub struct NetPort<
+    R: Net<Listener = TcpListener, Stream = TcpStream> + Copy + Send + Drop,
+    C: Clock + Copy + Send + Drop,
+> {
     net: R,
+    clock: C,
     address: IpAddr,
     listener: Option<TcpListener>,
     faults: u64,
 }
 
-impl<R: Net<Listener = TcpListener, Stream = TcpStream> + Copy + Send + Drop> Model for NetPort<R> {
+impl<
+    R: Net<Listener = TcpListener, Stream = TcpStream> + Copy + Send + Drop,
+    C: Clock + Copy + Send + Drop,
+> Model for NetPort<R, C> {
     ghost use Rattle.std.specs.Prelude.{ℕ};
 
     ghost Value = { ℕ };
@@ -25,13 +33,18 @@ impl<R: Net<Listener = TcpListener, Stream = TcpStream> + Copy + Send + Drop> Mo
     ghost view = { λ p. p.faults };
 }
 
-impl<R: Net<Listener = TcpListener, Stream = TcpStream> + Copy + Send + Drop> NetPort<R> {
-    /// A port of this address that doesn't listen yet, and of which no call failed.
-    pub fn make(net: R, address: IpAddr) -> NetPort<R>
+impl<
+    R: Net<Listener = TcpListener, Stream = TcpStream> + Copy + Send + Drop,
+    C: Clock + Copy + Send + Drop,
+> NetPort<R, C> {
+    /// A port of this address that doesn't listen yet, and of which no call failed. This clock tells how
+    /// long its connections take.
+    pub fn make(net: R, clock: C, address: IpAddr) -> NetPort<R, C>
         ensures { result ≡ 0 }
     {
         NetPort {
             net,
+            clock,
             address,
             listener: None,
             faults: 0,
@@ -47,10 +60,13 @@ impl<R: Net<Listener = TcpListener, Stream = TcpStream> + Copy + Send + Drop> Ne
     }
 }
 
-impl<R: Net<Listener = TcpListener, Stream = TcpStream> + Copy + Send + Drop> Port for NetPort<R> {
+impl<
+    R: Net<Listener = TcpListener, Stream = TcpStream> + Copy + Send + Drop,
+    C: Clock + Copy + Send + Drop,
+> Port for NetPort<R, C> {
     ghost use Rattle.std.specs.Prelude.{None, ⊤};
 
-    type L = NetLink;
+    type L = NetLink<C>;
 
     ghost links = { λ _. None };
 
@@ -76,8 +92,8 @@ impl<R: Net<Listener = TcpListener, Stream = TcpStream> + Copy + Send + Drop> Po
     }
 
     /// Waits for a connection. That it doesn't listen is a fault.
-    fn accept(&mut self) -> Result<Option<NetLink>, Failed> {
-        let accepted = accept_once(&self.listener);
+    fn accept(&mut self) -> Result<Option<NetLink<C>>, Failed> {
+        let accepted = accept_once(&self.listener, self.clock);
         if accepted.is_err() {
             self.faults = self.faults.saturating_add(1);
         }
@@ -85,14 +101,17 @@ impl<R: Net<Listener = TcpListener, Stream = TcpStream> + Copy + Send + Drop> Po
     }
 
     /// Closes the connection.
-    fn hang_up(&mut self, link: NetLink) {
+    fn hang_up(&mut self, link: NetLink<C>) {
         drop(link);
     }
 }
 
 /// The next connection. One that broke off before it was accepted, or that takes no limit on how long it
 /// waits, is passed over. It fails where nobody listens.
-fn accept_once(listener: &Option<TcpListener>) -> Result<Option<NetLink>, Failed>
+fn accept_once<C: Clock + Copy + Drop>(
+    listener: &Option<TcpListener>,
+    clock: C,
+) -> Result<Option<NetLink<C>>, Failed>
     ensures fresh { IfOk result (λ given. IfSome given (λ link. link ≡ record { read_faults = 0; write_faults = 0 })) }
     ensures given { IfOk result (λ given. IsSome given) }
 {
@@ -102,7 +121,7 @@ fn accept_once(listener: &Option<TcpListener>) -> Result<Option<NetLink>, Failed
     for _ in 0..u64::MAX {
         match listener.accept() {
             Ok((stream, _)) => {
-                if let Some(link) = NetLink::make(stream) {
+                if let Some(link) = NetLink::make(stream, clock) {
                     return Ok(Some(link));
                 }
             }

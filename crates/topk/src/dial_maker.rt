@@ -3,6 +3,7 @@
 ghost use Rattle.std.specs.Prelude.{◌≡◌};
 
 use std::net::{Net, TcpStream};
+use std::time::Clock;
 use tk_io::{Dial, NetDial};
 
 /// What makes dials, one for each source.
@@ -20,14 +21,14 @@ pub trait DialMaker {
 }
 
 /// The network makes dials to its hosts.
-impl<R: Net<Stream = TcpStream> + Copy + Drop> DialMaker for R {
+impl<R: Net<Stream = TcpStream> + Clock + Copy + Drop> DialMaker for R {
     ghost use Rattle.std.specs.Prelude.{⊤};
 
-    type D = NetDial<R>;
+    type D = NetDial<R, R>;
 
     ghost makes = { λ _ _. ⊤ };
 
-    fn make_dial(&self) -> NetDial<R> {
-        NetDial::make(*self)
+    fn make_dial(&self) -> NetDial<R, R> {
+        NetDial::make(*self, *self)
     }
 }

@@ -17,7 +17,7 @@ fn main(rt: HostRuntime) -> ExitCode {
     let mut shelf = PlaceShelf::make(rt.alloc(), &rt, &rt);
     let mut input = StdIntake::make(rt.stdin());
     let mut out = StdSink::make(rt.stdout());
-    let mut port = NetPort::make(rt, IpAddr::V4(Ipv4Addr::UNSPECIFIED));
+    let mut port = NetPort::make(rt, rt, IpAddr::V4(Ipv4Addr::UNSPECIFIED));
     let code = run_process(
         &rt,
         &rt,
