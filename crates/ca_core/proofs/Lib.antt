@@ -10,3 +10,4 @@ pub mod Renewing
 pub mod Courses
 pub mod Changing
 pub mod Scoring
+mod Certain

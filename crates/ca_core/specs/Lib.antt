@@ -4,3 +4,4 @@ pub mod Seen
 pub mod OnTable
 pub mod Kept
 pub mod Machine
+pub mod Certain

@@ -5,6 +5,7 @@ ghost use Rattle.topk_theory.specs.Combined.{phase_length};
 
 use super::answering::answer_items;
 use super::following::follow;
+use super::foreseen::left;
 use super::late_seen::LateSeen;
 use super::stage::Stage;
 use access_log::{Access, Item, Items, Transcript};
@@ -57,7 +58,9 @@ fn phase_length(costs: Costs) -> u32
 }
 
 impl Ca {
-    ghost use Rattle.std.specs.Prelude.{◌≡◌, ◌≤◌, IfOk, IsOk};
+    ghost use Rattle.std.specs.Prelude.{◌≡◌, ◌≤◌, ◌<◌, IfOk, IsOk};
+    ghost use Rattle.topk_theory.specs.Asked.{combined_run};
+    ghost use Rattle.machine_base.specs.Certain.{Foresees};
     ghost use Rattle.machine_base.specs.Machine.{IsBegun, IsInRange, MayBeNextRow, MayBeNextGrade, RowFed, GradeFed, IsSameLog};
     ghost use Rattle.ca_core.specs.Machine.{MakesItsRun, IsAnswer};
 
@@ -109,6 +112,15 @@ impl Ca {
         ensures range { IsInRange self.now.log result }
     {
         self.stage.need()
+    }
+
+    /// What is certain of a list: the row there at the depth that is read, an unknown grade of the choice, or one of the first k; or
+    /// nothing. On every table that agrees with the transcript the run makes this access.
+    pub fn certain_next(&self, list: u8) -> Need
+        requires { list < self.now.log.lists }
+        ensures { Foresees combined_run self.now list result }
+    {
+        left(&self.base.transcript, &self.first, self.stage, list)
     }
 
     /// Tells the row that is needed. Where it is refused nothing has changed. Takes no memory.

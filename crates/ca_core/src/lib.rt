@@ -10,6 +10,7 @@ mod ca;
 mod choosing;
 mod driven;
 mod following;
+mod foreseen;
 mod kept_high;
 mod late_seen;
 mod open_highs;

@@ -53,6 +53,15 @@ run_begins run_to block grows depth (suc more) =
     let e : depth + suc more ≡ suc (depth + more) = omega arith in
     (before.0 ++ block (depth + more), ap run_to e ∙ grows (depth + more) ∙ ap (λ A. A ++ block (depth + more)) before.1 ∙ append_assoc (run_to depth) before.0 (block (depth + more)))
 
+-- the run goes on after a depth that is reached
+pub run_goes_on : (run_to block : ℕ → List Access) (stops : ℕ → Bool) (n own depth : ℕ) → ((d : ℕ) → run_to (suc d) ≡ run_to d ++ block d)
+    → IsOwn stops n own → IsReached stops n depth → (rest : List Access) × (run_to own ≡ run_to depth ++ rest)
+run_goes_on run_to block stops n own depth grows least at =
+    let up : depth ≤ own = not_past stops n own depth least at.unstopped in
+    let more = run_begins run_to block grows depth (own - depth) in
+    let whole : depth + (own - depth) ≡ own = omega arith in
+    (more.0, ap run_to (sym whole) ∙ more.1)
+
 -- accesses that go on to the end of a depth that is reached are on the run
 pub at_on_path : (run_to block : ℕ → List Access) (stops : ℕ → Bool) (n own depth : ℕ) (A : List Access) (next : Access) (later : List Access)
     → ((d : ℕ) → run_to (suc d) ≡ run_to d ++ block d) → IsOwn stops n own → IsReached stops n depth → A ++ next ∷ later ≡ run_to depth

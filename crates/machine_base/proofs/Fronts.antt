@@ -1,5 +1,5 @@
 -- Fronts and ends of lists, and lists without repeats.
-use Rattle.std.proofs.Common.{◌≡◌, ◌≢◌, ℕ, zero, suc, ◌+◌, inl, inr, List, [], ◌∷◌, ◌++◌, take, drop, AllPairs, Contains, Some, sym, ap, ◌∙◌, arith, append-nil, take-append-drop}
+use Rattle.std.proofs.Common.{◌≡◌, ◌≢◌, ℕ, zero, suc, ◌+◌, ◌≤◌, inl, inr, List, [], ◌∷◌, ◌++◌, take, drop, AllPairs, Contains, Some, sym, ap, ◌∙◌, arith, append-nil, take-append-drop}
 use Rattle.std.specs.List.{slice_get}
 use Rattle.std.proofs.lemmas.Option.{none-some, same_Some}
 use Rattle.topk_theory.proofs.AgreementLists.{contains_nil, contains_cases, slice_get_contains, distinct_tail}
@@ -63,3 +63,10 @@ none_before (y ∷ xs) (suc p) x apart e = λ c.
       | inl same ↦ head_apart y x xs apart (slice_get_contains xs p x e) same
       | inr there ↦ none_before xs p x (distinct_tail y xs apart) e there
     ]
+
+-- what stands at a place stands behind each one before
+pub get_behind : {X : Type 0} (xs : List X) (p at : ℕ) (x : X) → p ≤ at → slice_get xs at ≡ Some x → Contains (drop p xs) x
+get_behind [] p at x l e = absurd (none-some x e)
+get_behind (y ∷ xs) zero at x l e = slice_get_contains (y ∷ xs) at x e
+get_behind (y ∷ xs) (suc p) zero x l e = absurd (omega arith)
+get_behind (y ∷ xs) (suc p) (suc at) x l e = get_behind xs p at x (omega arith) e

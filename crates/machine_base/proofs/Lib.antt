@@ -11,6 +11,7 @@ pub mod Fronts
 pub mod Unknown
 pub mod Known
 pub mod Asks
+pub mod Certain
 mod AskFrom
 mod Begins
 mod RoomTest

@@ -1,5 +1,5 @@
 -- The unknown grades of an object: the first list that has one, and what one more access leaves of them.
-use Rattle.std.proofs.Common.{◌≡◌, ◌≢◌, ℕ, suc, ◌+◌, ◌-◌, ◌<◌, inl, inr, Bool, true, false, cond, List, [], ◌∷◌, ◌++◌, length, map, filter, AllPairs, Contains, Option, Some, None, is_none, is_some, refl, sym, ap, subst, ◌∙◌, arith, get_or}
+use Rattle.std.proofs.Common.{◌≡◌, ◌≢◌, ℕ, suc, ◌+◌, ◌-◌, ◌<◌, inl, inr, Bool, true, false, not, cond, List, [], ◌∷◌, ◌++◌, length, map, filter, AllPairs, Contains, Option, Some, None, is_none, is_some, refl, sym, ap, subst, ◌∙◌, arith, get_or}
 use Rattle.std.specs.List.{slice_get, range_with_len}
 use Rattle.std.proofs.lemmas.Bool.{cases_Bool, cases_eq, cond-true, cond-false, true≢false, false≢true}
 use Rattle.std.proofs.lemmas.List.FromFn.{get_or-map-range_with_len, length-map-range_with_len}
@@ -43,6 +43,12 @@ unknown_of (Some x) known e f = absurd (true≢false f)
 pub known_of : (kept known : Option ℕ) → kept ≡ known → is_some kept ≡ true → is_none known ≡ false
 known_of None known e t = absurd (false≢true t)
 known_of (Some x) known e t = ap (λ (o : Option ℕ). is_none o) (sym e)
+
+pub tells_unknown : (kept known : Option ℕ) (r : Bool) → kept ≡ known → is_some kept ≡ not r → r ≡ is_none known
+tells_unknown None known true e h = ap (λ (o : Option ℕ). is_none o) e
+tells_unknown None known false e h = absurd (false≢true h)
+tells_unknown (Some x) known true e h = absurd (true≢false h)
+tells_unknown (Some x) known false e h = ap (λ (o : Option ℕ). is_none o) e
 
 pub known_length : (m : ℕ) (A : List Access) (object : ℕ) (known : List (Option ℕ)) → known ≡ map (λ l. known_grade A object l) (list_numbers m)
     → length known ≡ m

@@ -3,3 +3,4 @@ pub mod Base
 pub mod Depths
 pub mod Asking
 pub mod Board
+pub mod Certain

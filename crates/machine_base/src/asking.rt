@@ -1,10 +1,13 @@
 //! Asking for what is missing: the unknown grades of objects, object by object, and of each in the order of the lists.
 
-ghost use Rattle.std.specs.Prelude.{◌≡◌, drop};
+ghost use Rattle.std.specs.Prelude.{◌≡◌, ◌<◌, drop, is_none};
+ghost use Rattle.topk_theory.specs.Bounds.{known_grade};
 ghost use Rattle.machine_base.specs.Asking.{next_unknown, ask_from};
+ghost use Rattle.machine_base.specs.Certain.{IsUnknownOf};
 
 use super::object_list::ObjectList;
 use access_log::Transcript;
+use ranked_list::Need;
 
 /// The grade in a list of the object at a place of some objects.
 #[derive(Clone, Copy)]
@@ -28,6 +31,33 @@ pub fn next_unknown(transcript: &Transcript, object: u32) -> Option<u8>
         }
     }
     None
+}
+
+/// Whether no access gave the grade of an object in a list.
+fn is_unknown(transcript: &Transcript, object: u32, list: u8) -> bool
+    requires { list < transcript.now.lists }
+    ensures { result ≡ is_none (known_grade transcript.now.accesses object list) }
+{
+    transcript.known(object)[list as usize].is_none()
+}
+
+/// The grade in a list of the first object, from a place on, whose grade there no access gave.
+pub fn first_unknown<L: ObjectList + Copy>(
+    transcript: &Transcript,
+    objects: L,
+    place: usize,
+    list: u8,
+) -> Need
+    requires { list < transcript.now.lists }
+    ensures { IsUnknownOf transcript.now.accesses (drop place (L.objects objects)) list result }
+{
+    for at in place..objects.size() {
+        let object = objects.object(at);
+        if is_unknown(transcript, object, list) {
+            return Need::Grade { list, object };
+        }
+    }
+    Need::Done
 }
 
 /// What is asked next of objects from a place on: the first unknown grade of the first of them that has one; None where all

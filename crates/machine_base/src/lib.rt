@@ -13,7 +13,7 @@ mod object_list;
 
 pub use access_log::Memory;
 pub use answer::Answer;
-pub use asking::{Ask, ask_from, next_unknown};
+pub use asking::{Ask, ask_from, first_unknown, next_unknown};
 pub use base::Base;
 pub use core_fault::CoreFault;
 pub use driven::{Driven, Task};

@@ -21,3 +21,4 @@ pub mod Steps
 pub mod Runs
 pub mod Feeds
 pub mod Answering
+pub mod Certain

@@ -32,14 +32,14 @@ pub run_of : (V : List ℕ → ℕ) (k n : ℕ) (D : List (List Row)) (A : List 
 run_of V k n D A place done on = subst (λ b. MatchBool b (A ≡ nra_run V k D) (OnRow V k n D A place)) done on
 
 -- the run goes by whole rows, and ends at the algorithm's own depth
-reads_rows : (n : ℕ) (D : List (List Row)) → IsTable n D → ReadsRows (nra_run_to D) n D
+pub reads_rows : (n : ℕ) (D : List (List Row)) → IsTable n D → ReadsRows (nra_run_to D) n D
 reads_rows n D t = λ depth list within l. run_rows n depth D list t within l
 
 ends_with_row : (D : List (List Row)) (depth : ℕ) → 1 ≤ depth → nra_run_to D (depth - 1) ++ sorted_block 0 depth D ≡ nra_run_to D depth
 ends_with_row D zero positive = absurd (omega arith)
 ends_with_row D (suc depth) positive = let e : suc depth - 1 ≡ depth = omega arith in ap (λ d. nra_run_to D d ++ sorted_block 0 (suc depth) D) e
 
-own : (V : List ℕ → ℕ) (k n : ℕ) (D : List (List Row)) → IsMonotone V → IsAsked k n D → IsOwn (quiet_at V k D) n (nra_depth V k D)
+pub own : (V : List ℕ → ℕ) (k n : ℕ) (D : List (List Row)) → IsMonotone V → IsAsked k n D → IsOwn (quiet_at V k D) n (nra_depth V k D)
 own V k n D monotone asked =
     let least = nra_depth_is_least V k n D monotone asked in
     record { from_one = least.from_one; within = least.within; ends = least.quiet; least = least.least }

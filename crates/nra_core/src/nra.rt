@@ -49,7 +49,9 @@ impl Model for Nra {
 }
 
 impl Nra {
-    ghost use Rattle.std.specs.Prelude.{◌≡◌, ◌≤◌, IfOk, IsOk};
+    ghost use Rattle.std.specs.Prelude.{◌≡◌, ◌≤◌, ◌<◌, IfOk, IsOk};
+    ghost use Rattle.topk_theory.specs.Asked.{no_random_run};
+    ghost use Rattle.machine_base.specs.Certain.{Foresees};
     ghost use Rattle.machine_base.specs.Machine.{IsBegun, IsInRange, IsNoGrade, MayBeNextRow, RowFed, IsSameLog};
     ghost use Rattle.nra_core.specs.Machine.{MakesItsRun, IsAnswer, HaveTrueBounds};
 
@@ -104,6 +106,21 @@ impl Nra {
         ensures rows { IsNoGrade result }
     {
         self.place.need()
+    }
+
+    /// What is certain of a list: the row there at the depth that is read, which the run reads on every table that agrees with the
+    /// transcript; or nothing.
+    pub fn certain_next(&self, list: u8) -> Need
+        requires { list < self.now.log.lists }
+        ensures { Foresees no_random_run self.now list result }
+    {
+        if self.place.done {
+            return Need::Done;
+        }
+        Need::Row {
+            list,
+            depth: self.place.depth,
+        }
     }
 
     /// Tells the row that is needed. Where it is refused nothing has changed. Takes no memory.

@@ -16,3 +16,4 @@ pub mod Feeding
 pub mod Answering
 pub mod Endings
 mod Making
+mod Foreseen

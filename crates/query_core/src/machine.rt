@@ -1,11 +1,12 @@
 //! A machine of the algorithm that a query names.
 
-ghost use Rattle.std.specs.Prelude.{◌≡◌, false, IfOk};
+ghost use Rattle.std.specs.Prelude.{◌≡◌, ◌<◌, false, IfOk};
 ghost use Rattle.ranked_list.specs.declared.need.Need.{Need};
 ghost use Rattle.monotone_fn.specs.Value.{value};
 ghost use Rattle.machine_base.specs.Machine.{asked_of, MayBeNextRow, MayBeNextGrade, RowFed, GradeFed, IsInRange, IsNoGrade, IsSameLog};
 ghost use Rattle.query_core.specs.Algorithms.{asks_grades};
-ghost use Rattle.query_core.specs.Methods.{AnswersWith, IsNearWith};
+ghost use Rattle.machine_base.specs.Certain.{Foresees};
+ghost use Rattle.query_core.specs.Methods.{AnswersWith, IsNearWith, run_with};
 ghost use Rattle.query_core.specs.OneAnswer.{HasTrueItems};
 ghost use Rattle.query_core.specs.Ready.{IsReady};
 ghost use Rattle.query_core.specs.Machines.{method_of, algorithm_of, state_of, MakesItsRun, IsMachineFor};
@@ -107,6 +108,24 @@ impl Machine {
             Machine::Theta(machine) => machine.need(),
             Machine::Early(machine) => machine.need(),
             Machine::Taz(machine) => machine.need(),
+        }
+    }
+
+    /// What is certain of a list: a row or a grade that the run of the algorithm asks it for on every table that agrees with the transcript;
+    /// or nothing. Of `ta`, `theta` and `early` that is the row at the depth that is read, and after it the grade of the first new object that
+    /// misses it; of `nra` the row; of `ca` the row, a grade of the choice or of the first k.
+    pub fn certain_next(&self, list: u8) -> Need
+        requires { list < (state_of self.now).log.lists }
+        ensures { Foresees (run_with (method_of self.now)) (state_of self.now) list result }
+    {
+        match self {
+            Machine::Ta(machine) => machine.certain_next(list),
+            Machine::Nra(machine) => machine.certain_next(list),
+            Machine::Ca(machine) => machine.certain_next(list),
+            Machine::Fa(_) => Need::Done,
+            Machine::Theta(machine) => machine.certain_next(list),
+            Machine::Early(machine) => machine.certain_next(list),
+            Machine::Taz(_) => Need::Done,
         }
     }
 

@@ -7,3 +7,4 @@ pub mod Kept
 pub mod Machine
 -- What the machines that stop within a factor and early make and answer.
 pub mod MachineWithin
+pub mod Certain

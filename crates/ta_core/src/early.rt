@@ -38,7 +38,9 @@ impl Model for Early {
 }
 
 impl Early {
-    ghost use Rattle.std.specs.Prelude.{◌≡◌, ◌≤◌, IfOk};
+    ghost use Rattle.std.specs.Prelude.{◌≡◌, ◌≤◌, ◌<◌, IfOk};
+    ghost use Rattle.machine_base.specs.Certain.{Foresees};
+    ghost use Rattle.theta_theory.specs.Nearby.{early_stopped_run};
     ghost use Rattle.machine_base.specs.Machine.{IsBegun, IsInRange, MayBeNextRow, MayBeNextGrade, RowFed, GradeFed, IsSameLog};
     ghost use Rattle.ta_core.specs.MachineWithin.{MakesEarlyRun, IsEarlyAnswer};
 
@@ -74,6 +76,14 @@ impl Early {
         ensures range { IsInRange self.now.state.log result }
     {
         self.machine.need()
+    }
+
+    /// What is certain of a list: an access that the run makes on every table that agrees with the transcript; or nothing.
+    pub fn certain_next(&self, list: u8) -> Need
+        requires { list < self.now.state.log.lists }
+        ensures { Foresees (early_stopped_run self.now.depth) self.now.state list result }
+    {
+        self.machine.certain_next(list)
     }
 
     /// Tells the row that is needed. Where it is refused nothing has changed.

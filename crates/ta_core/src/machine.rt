@@ -42,10 +42,11 @@ impl Model for ThresholdMachine {
 }
 
 impl ThresholdMachine {
-    ghost use Rattle.std.specs.Prelude.{◌≡◌, ◌≤◌, IfOk};
+    ghost use Rattle.std.specs.Prelude.{◌≡◌, ◌≤◌, ◌<◌, IfOk};
     ghost use Rattle.machine_base.specs.Machine.{IsBegun, IsInRange, MayBeNextRow, MayBeNextGrade, RowFed, GradeFed, IsSameLog};
     ghost use Rattle.access_log.specs.Log.{IsWithinLimits};
-    ghost use Rattle.ta_core.specs.Halting.{IsFair};
+    ghost use Rattle.machine_base.specs.Certain.{Foresees};
+    ghost use Rattle.ta_core.specs.Halting.{IsFair, run_halting};
     ghost use Rattle.ta_core.specs.Machine.{MakesHaltingRun, IsHaltingAnswer};
 
     /// A machine for the first `k` of `count` objects, that sees `room` of them at most. No other call
@@ -91,6 +92,17 @@ impl ThresholdMachine {
         ensures range { IsInRange self.now.state.log result }
     {
         self.progress.need(self.base.transcript.lists())
+    }
+
+    /// What is certain of a list: the row there at this depth, or after the row the grade of the first new object that misses it; or nothing.
+    /// On every table that agrees with the transcript the run makes this access.
+    ///
+    /// *Cost*: a look at each object that waits.
+    pub fn certain_next(&self, list: u8) -> Need
+        requires { list < self.now.state.log.lists }
+        ensures { Foresees (run_halting self.now.halting) self.now.state list result }
+    {
+        self.progress.left(self.base.transcript.lists(), list)
     }
 
     /// Tells the row that is needed. Where it is refused nothing has changed. Takes no memory.

@@ -36,7 +36,9 @@ impl Model for Ta {
 }
 
 impl Ta {
-    ghost use Rattle.std.specs.Prelude.{◌≡◌, ◌≤◌, IfOk};
+    ghost use Rattle.std.specs.Prelude.{◌≡◌, ◌≤◌, ◌<◌, IfOk};
+    ghost use Rattle.machine_base.specs.Certain.{Foresees};
+    ghost use Rattle.topk_theory.specs.Asked.{threshold_run};
     ghost use Rattle.machine_base.specs.Machine.{IsBegun, IsInRange, MayBeNextRow, MayBeNextGrade, RowFed, GradeFed, IsSameLog};
     ghost use Rattle.ta_core.specs.Machine.{MakesItsRun, IsAnswer};
 
@@ -69,6 +71,14 @@ impl Ta {
         ensures range { IsInRange self.now.log result }
     {
         self.machine.need()
+    }
+
+    /// What is certain of a list: an access that the run makes on every table that agrees with the transcript; or nothing.
+    pub fn certain_next(&self, list: u8) -> Need
+        requires { list < self.now.log.lists }
+        ensures { Foresees threshold_run self.now list result }
+    {
+        self.machine.certain_next(list)
     }
 
     /// Tells the row that is needed. Where it is refused nothing has changed. Takes no memory.
