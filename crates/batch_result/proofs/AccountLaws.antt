@@ -1,18 +1,23 @@
 -- No more was used of a source than the queries of a batch read of it.
-use Rattle.std.proofs.Common.{◌≡◌, ◌≤◌, ◌<◌, ◌+◌, ◌==◌, inl, inr, ℕ, Bool, max, Some, List, [], ◌∷◌, ◌++◌, append-nil, length, map, take, drop, All, Contains, slice_index_or, eqb-true, refl, sym, ap, subst, ◌∙◌, arith}
-use Rattle.std.specs.List.{AllZip, fold}
-use Rattle.std.proofs.lemmas.List.{length-append}
+use Rattle.std.proofs.Common.{◌≡◌, ◌≢◌, ◌≤◌, ◌<◌, ◌+◌, ◌==◌, inl, inr, ℕ, zero, suc, Bool, max, Option, Some, None, List, [], ◌∷◌, ◌++◌, append-nil, length, map, filter, take, drop, All, AllPairs, Contains, slice_index_or, eqb-true, refl, sym, ap, subst, ◌∙◌, arith}
+use Rattle.std.specs.List.{AllZip, flat_map, fold, slice_get}
+use Rattle.std.proofs.lemmas.List.{length-append, length-map}
 use Rattle.std.proofs.lemmas.List.Elements.{All-tail}
-use Rattle.std.proofs.lemmas.List.Sums.{sum_by-cons}
+use Rattle.std.proofs.lemmas.List.Sums.{length-filter, sum_by-cons}
+use Rattle.ranked_list.specs.declared.need.Need.TheVariants as need
+use Rattle.topk_theory.specs.declared.access.Access.{Access}
+use Rattle.topk_theory.specs.declared.access.Access.TheVariants.{Sorted, Random}
+use Rattle.topk_theory.specs.Machine.{IsAt, need_of}
+use Rattle.machine_base.proofs.Certain.{flat_has}
 use Rattle.ranked_list.specs.declared.row.Row.{Row}
 use Rattle.ranked_list.specs.Table.{IsTable}
 use Rattle.monotone_fn.specs.Shape.{list_count}
 use Rattle.topk_theory.specs.Asked.{Asked}
 use Rattle.topk_theory.specs.Threshold.{IsAsked}
-use Rattle.topk_theory.specs.Transcript.{list_at, depth_of, list_numbers}
-use Rattle.topk_theory.proofs.AgreementLists.{all_from_members, begins_splits, contains_at, contains_cases, contains_here, contains_map, contains_map_from, contains_nil, contains_there, member_of_all}
+use Rattle.topk_theory.specs.Transcript.{list_at, depth_of, list_numbers, object_of}
+use Rattle.topk_theory.proofs.AgreementLists.{all_from_members, begins_splits, contains_at, contains_cases, contains_here, contains_map, contains_map_from, contains_nil, contains_there, distinct_fits, member_of_all}
 use Rattle.topk_theory.proofs.ListNumbers.{number_below}
-use Rattle.topk_theory.proofs.ThresholdLists.{contains_from_filter}
+use Rattle.topk_theory.proofs.ThresholdLists.{contains_filter, contains_from_filter}
 use Rattle.zlist_core.specs.Lists.{reads}
 use Rattle.access_log.specs.Log.{AgreesWith}
 use Rattle.machine_base.specs.Machine.{asked_of}
@@ -35,15 +40,15 @@ use Rattle.query_run.specs.Endings.{EndsAs}
 use Rattle.query_run.specs.Honest.{lists_of, HasTable}
 use Rattle.query_run.specs.Kept.{IsServed}
 use Rattle.query_run.specs.Made.{IsOf}
-use Rattle.query_run.specs.Asking.{access_of, accesses_asked, grades_asked}
+use Rattle.query_run.specs.Asking.{run_on, grades_on}
 use Rattle.fetcher.specs.Causes.{HasGiven}
-use Rattle.batch_result.specs.Account.{Reading, AsksGradesAlone, IsAnsweredOf, IsReadByGrades, IsWithin, KeepsEach, deepest, depth_in, greatest, lists_of_source, one_reading, one_readings, printed_reading, printed_readings, random_accesses, random_in}
+use Rattle.batch_result.specs.Account.{Reading, AsksGradesAlone, IsAnsweredOf, IsReadByGrades, IsWithin, KeepsEach, deepest, depth_in, greatest, is_random_to, lists_of_source, one_reading, one_readings, printed_reading, printed_readings, random_accesses, random_in}
 use Rattle.batch_result.specs.declared.batch.Use.{Use}
 use Rattle.batch_result.specs.Cut.{IsReadBy}
 use Rattle.batch_result.specs.Batches.{BatchRun, BatchState, IsBatch, size_at, use_at}
 use Rattle.batch_result.specs.Tables.{lists_for}
-use Rattle.batch_result.specs.Using.{IsWantedBy, all_grades_asked}
-use Rattle.batch_result.proofs.AskedLaws.{AsksWithin, GoesNoFurther, asked_of_run, asks_nothing, greatest_above, same_far, within_reading}
+use Rattle.batch_result.specs.Using.{IsWantedBy, IsNamedBy, AgreesWithRead, all_grades_on}
+use Rattle.batch_result.proofs.AskedLaws.{AsksWithin, asks_nothing, greatest_above, within_reading}
 use Rattle.batch_result.proofs.OwnTables.{all_tables, same_lists}
 use Rattle.batch_result.proofs.FaultLaws.{all_kept}
 use Rattle.batch_result.proofs.TableLaws.{agrees_by, reads_of, read_by}
@@ -70,45 +75,97 @@ deep_within source depth queries readings h wanted = elim wanted [
       omega (arith, deep, above)
 ]
 
-random_within : (source : ℕ) (queries : List Inquiry) (readings : List Reading) → AllZip (AsksWithin source) queries readings
-    → all_grades_asked queries source ≤ random_accesses source readings
-random_within source [] [] h =
-    let none : all_grades_asked [] source ≡ 0 = refl in
-    omega (arith, none)
-random_within source [] (r ∷ readings) h = absurd h
-random_within source (q ∷ queries) [] h = absurd h
-random_within source (q ∷ queries) (r ∷ readings) h =
-    let first = h.0.random in
-    let rest = random_within source queries readings h.1 in
-    let asked : all_grades_asked (q ∷ queries) source ≡ grades_asked q source + all_grades_asked queries source = sum_by-cons (λ (p : Inquiry). grades_asked p source) q queries in
-    let made : random_accesses source (r ∷ readings) ≡ random_in source r + random_accesses source readings = sum_by-cons (random_in source) r readings in
-    omega (arith, first, rest, asked, made)
+-- the objects that a reading asks a source for, one for each random access
+abbrev objects_read : ℕ → Reading → List ℕ
+objects_read source r = map object_of (filter (is_random_to source r.sources) r.accesses)
+
+read_count : (source : ℕ) (readings : List Reading) → length (flat_map (objects_read source) readings) ≡ random_accesses source readings
+read_count source [] = refl
+read_count source (r ∷ readings) =
+    length-append (objects_read source r) (flat_map (objects_read source) readings)
+    ∙ ap (λ n. n + length (flat_map (objects_read source) readings)) (length-map (filter (is_random_to source r.sources) r.accesses) object_of ∙ length-filter (is_random_to source r.sources) r.accesses)
+    ∙ ap (λ n. random_in source r + n) (read_count source readings)
+    ∙ sym (sum_by-cons (random_in source) r readings)
+
+-- objects, each once, of which each is named by a query, are no more than the random accesses of the readings
+asks_within : (source : ℕ) (queries : List Inquiry) (readings : List Reading) (asks : List ℕ) → AllZip (AsksWithin source) queries readings
+    → AllPairs (λ (one other : ℕ). one ≢ other) asks → ((object : ℕ) → Contains asks object → IsNamedBy queries source object) → length asks ≤ random_accesses source readings
+asks_within source queries readings asks h apart named =
+    let all = distinct_fits asks (flat_map (objects_read source) readings) apart (λ object c.
+    let by = named object c in
+    let with = zip_other (AsksWithin source) queries readings by.0 h by.1 in
+    let read = with.2.named object by.2 in
+    flat_has (objects_read source) readings with.0 object with.1
+    (subst (Contains (objects_read source with.0)) read.3
+    (contains_map object_of (filter (is_random_to source with.0.sources) with.0.accesses) read.0
+    (contains_filter (is_random_to source with.0.sources) with.0.accesses read.0 read.1 read.2)))) in
+    let count = read_count source readings in
+    omega (arith, all, count)
+
+-- the readings of queries on tables that agree with what they read
+abbrev reading_on : Inquiry → List (List Row) → Reading
+reading_on q D = record { sources = q.sources.items; accesses = run_on q D }
+
+all_on : (source : ℕ) (queries : List Inquiry) (tables : List (List (List Row))) → AllZip AgreesWithRead queries tables
+    → (readings : List Reading) × AllZip (AsksWithin source) queries readings × (random_accesses source readings ≡ all_grades_on queries tables source)
+all_on source [] [] agree = ([], tt, refl)
+all_on source [] (D ∷ tables) agree = absurd agree
+all_on source (q ∷ queries) [] agree = absurd agree
+all_on source (q ∷ queries) (D ∷ tables) agree =
+    let rest = all_on source queries tables agree.1 in (
+      reading_on q D ∷ rest.0,
+      (within_reading source q (reading_on q D) D refl agree.0 refl, rest.1),
+      sum_by-cons (random_in source) (reading_on q D) rest.0 ∙ ap (λ n. grades_on q source D + n) rest.2,
+    )
+
+-- no more objects are asked than the runs on such tables ask for grades
+pub asks_on : (source : ℕ) (queries : List Inquiry) (tables : List (List (List Row))) (asks : List ℕ) → AllZip AgreesWithRead queries tables
+    → AllPairs (λ (one other : ℕ). one ≢ other) asks → ((object : ℕ) → Contains asks object → IsNamedBy queries source object)
+    → length asks ≤ all_grades_on queries tables source
+asks_on source queries tables asks agree apart named =
+    let on = all_on source queries tables agree in
+    let few = asks_within source queries on.0 asks on.1 apart named in
+    let same = on.2 in
+    omega (arith, few, same)
 
 -- ---- one query
--- what a query asked for goes no further than its one run
-no_further : (lists : List (List Row)) (states : List State) (ready : Ready) (q : Inquiry) → (of : IsOf ready q) → (served : IsServed states q)
-    → AgreesWith (lists_of lists q) (state_of q.machine).log → GoesNoFurther (accesses_asked q) (one_run_with (method_of_ready ready) ready.query (lists_for lists ready))
-no_further lists states ready q of served agrees =
+-- the run of a query on its lists is its one run
+one_run : (lists : List (List Row)) (ready : Ready) (q : Inquiry) → (of : IsOf ready q)
+    → run_on q (lists_of lists q) ≡ one_run_with (method_of_ready ready) ready.query (lists_for lists ready)
+one_run lists ready q of =
     let t = state_of q.machine in
     let D = lists_of lists q in
-    let same : run_with (method_of q.machine) (asked_of t) D ≡ one_run_with (method_of_ready ready) ready.query (lists_for lists ready)
-    = ap (λ method. run_with method (asked_of t) D) of.method
+    ap (λ method. run_with method (asked_of t) D) of.method
     ∙ (ap (λ x. run_with (method_of_ready ready) x D) (asked_same ready.query ready.count _ of.first t of.begun of.goes)
-    ∙ ap (one_run_with (method_of_ready ready) ready.query) (sym (same_lists lists ready q of))) in
-    subst (GoesNoFurther (accesses_asked q)) same
-    (asked_of_run (run_with (method_of q.machine) (asked_of t) D) t.log.accesses t.need (served.run.on_run D agrees))
+    ∙ ap (one_run_with (method_of_ready ready) ready.query) (sym (same_lists lists ready q of)))
 
--- and no further than its transcript, where it was answered
+-- a run at whose end nothing is needed is what was made of it
+done_run : (run made : List Access) → IsAt run made need.Done → run ≡ made
+done_run run made at = begins_splits made run at.begins ∙ ap (λ rest. made ++ rest) (nothing_left run made (slice_get run (length made)) refl at.next) ∙ append-nil made
+  where
+    drop_from : {X : Type 0} (xs : List X) (n : ℕ) → slice_get xs n ≡ None → drop n xs ≡ []
+    drop_from [] zero e = refl
+    drop_from [] (suc n) e = refl
+    drop_from (x ∷ xs) zero e = absurd (cc)
+    drop_from (x ∷ xs) (suc n) e = drop_from xs n e
+
+    nothing_left : (run made : List Access) (next : Option Access) → slice_get run (length made) ≡ next → need.Done ≡ need_of made next → drop (length made) run ≡ []
+    nothing_left run made None is e = drop_from run (length made) is
+    nothing_left run made (Some (Sorted list object grade)) is e = absurd (cc)
+    nothing_left run made (Some (Random list object grade)) is e = absurd (cc)
+
+-- what is certain is in its transcript, where it was answered
 printed_within : (states : List State) (source : ℕ) (ready : Ready) (q : Inquiry) (end : Ended) → IsServed states q → (of : IsOf ready q) → EndsAs q end
     → IsAnsweredOf source ready end → AsksWithin source q (printed_reading ready end)
 printed_within states source ready q (ended.Answered answer) served of ends answered =
-    let A = (state_of q.machine).log.accesses in
-    let all : accesses_asked q ≡ answer.transcript.accesses = ap (λ n. A ++ access_of n) ends.done ∙ (append-nil A ∙ sym ends.log.accesses) in
-    within_reading source q (printed_reading ready (ended.Answered answer)) (sym of.sources) (same_far (accesses_asked q) answer.transcript.accesses all)
+    let some = served.run.consistent in
+    let all : run_on q some.0 ≡ answer.transcript.accesses
+    = done_run (run_on q some.0) (state_of q.machine).log.accesses (subst (IsAt (run_on q some.0) (state_of q.machine).log.accesses) ends.done (served.run.on_run some.0 some.1)) ∙ sym ends.log.accesses in
+    within_reading source q (printed_reading ready (ended.Answered answer)) some.0 (sym of.sources) some.1 all
 printed_within states source ready q (ended.Core fault) served of ends answered =
-    asks_nothing states source q (printed_reading ready (ended.Core fault)) served (λ c. answered (subst (λ xs. Contains xs source) of.sources c))
+    asks_nothing source q (printed_reading ready (ended.Core fault)) (λ c. answered (subst (λ xs. Contains xs source) of.sources c))
 printed_within states source ready q (ended.Look list fault) served of ends answered =
-    asks_nothing states source q (printed_reading ready (ended.Look list fault)) served (λ c. answered (subst (λ xs. Contains xs source) of.sources c))
+    asks_nothing source q (printed_reading ready (ended.Look list fault)) (λ c. answered (subst (λ xs. Contains xs source) of.sources c))
 
 all_printed : (states : List State) (source : ℕ) (readies : List Ready) (queries : List Inquiry) (endings : List Ended) → All (IsServed states) queries
     → AllZip IsOf readies queries → AllZip EndsAs queries endings → AllZip (IsAnsweredOf source) readies endings
@@ -159,9 +216,7 @@ own_reading states q served =
 
 own_within : (states : List State) (source : ℕ) (q : Inquiry) (served : IsServed states q) → AsksWithin source q (own_reading states q served)
 own_within states source q served =
-    let t = state_of q.machine in
-    within_reading source q (own_reading states q served) refl
-    (asked_of_run (run_with (method_of q.machine) (asked_of t) served.run.consistent.0) t.log.accesses t.need (served.run.on_run served.run.consistent.0 served.run.consistent.1))
+    within_reading source q (own_reading states q served) served.run.consistent.0 refl served.run.consistent.1 refl
 
 own_flat : (states : List State) (source : ℕ) (ready : Ready) (q : Inquiry) (served : IsServed states q) → IsOf ready q → IsReadByGrades source ready
     → depth_in source (own_reading states q served) ≡ 0
@@ -215,13 +270,13 @@ module _ (run : BatchRun) (queries : List Inquiry) (states : List State) (uses :
       → IsWithin run.settings (size_at run.sizes source) source readings (use_at uses source)
   within readings source l h =
       let used = read.used source l in
-      let most = used.asked in
-      let all = random_within source queries readings h in
+      let many = used.asks in
+      let all = asks_within source queries readings (state_at states source).asks h (read.closing source l).sound.distinct used.named in
       record {
         want = deep_within source (use_at uses source).want queries readings h used.wanted;
         rows = subst (λ n. (use_at uses source).rows ≤ reach_of (use_at uses source).want run.settings.page run.settings.ahead n)
             (read.closing source l).count used.reach;
-        asks = omega (arith, most, all);
+        asks = omega (arith, many, all);
         grades = used.once;
       }
 
@@ -244,9 +299,7 @@ module _ (run : BatchRun) (queries : List Inquiry) (states : List State) (uses :
 
     asks_so : (source : ℕ) (ready : Ready) (q : Inquiry) → Contains queries q → IsOf ready q → AsksWithin source q (one_reading lists ready)
     asks_so source ready q c is =
-        within_reading source q (one_reading lists ready) (sym is.sources)
-        (no_further lists states ready q is (member_of_all (IsServed states) queries q read.served c)
-        (agrees_by run queries states uses read lists told own q c))
+        within_reading source q (one_reading lists ready) (lists_of lists q) (sym is.sources) (agrees_by run queries states uses read lists told own q c) (one_run lists ready q is)
 
     all_reads : (source : ℕ) (rs : List Ready) (qs : List Inquiry) → ((q : Inquiry) → Contains qs q → Contains queries q) → AllZip IsOf rs qs
         → AllZip (AsksWithin source) qs (one_readings lists rs)

@@ -1,32 +1,32 @@
 -- Where sources tell lists that form a table for each query, each query of a batch is on its run over them.
-use Rattle.std.proofs.Common.{◌≡◌, ◌≤◌, ◌<◌, inl, inr, ℕ, Some, None, List, [], ◌++◌, length, map, All, Contains, IfSome, sym, ap, subst, ◌∙◌, arith}
+use Rattle.std.proofs.Common.{◌≡◌, ◌≤◌, ◌<◌, inl, inr, ℕ, Some, None, List, [], length, map, All, Contains, IfSome, sym, ap, subst, ◌∙◌, arith}
 use Rattle.std.proofs.lemmas.Bool.{cases_lt}
 use Rattle.std.proofs.lemmas.List.{length-map, get_or_past}
 use Rattle.std.proofs.lemmas.List.Elements.{Contains-append_left, Contains-append_cases}
 use Rattle.ranked_list.specs.declared.row.Row.{Row}
-use Rattle.ranked_list.specs.declared.need.Need.{Need}
 use Rattle.ranked_list.specs.declared.need.Need.TheVariants as need
 use Rattle.ranked_list.specs.Table.{IsRanked, objects}
-use Rattle.topk_theory.specs.declared.access.Access.{Access}
-use Rattle.topk_theory.specs.declared.access.Access.TheVariants.{Sorted, Random}
-use Rattle.topk_theory.specs.Transcript.{Begins, Grows, IsDrawn, whole, list_at, list_of, object_of}
-use Rattle.topk_theory.specs.Machine.{CanServe}
+use Rattle.topk_theory.specs.declared.access.Access.TheVariants.{Random}
+use Rattle.topk_theory.specs.Transcript.{Begins, Grows, IsDrawn, whole, list_at}
 use Rattle.topk_theory.proofs.Agreement.{drawn_gives, drawn_more}
-use Rattle.topk_theory.proofs.AgreementLists.{all_from_members, member_of_all, contains_nil, contains_cases, contains_map, contains_at, contains_splits, begins_splits}
-use Rattle.topk_theory.proofs.AgreementRows.{objects_in_each}
+use Rattle.topk_theory.proofs.AgreementLists.{all_from_members, member_of_all, contains_map, contains_at, contains_splits, begins_splits}
 use Rattle.access_log.specs.Log.{AgreesWith}
 use Rattle.source_state.specs.declared.entry.Settling.TheVariants.{Graded}
 use Rattle.source_state.specs.Log.{rows_in, graded_in}
 use Rattle.source_state.specs.State.{State, opened, IsSound, state_at}
 use Rattle.source_state.proofs.LogLaws.{graded_settling}
-use Rattle.query_core.specs.Machines.{state_of}
+use Rattle.query_core.specs.Machines.{method_of, state_of}
 use Rattle.query_run.specs.declared.inquiry.Inquiry.{Inquiry}
-use Rattle.query_run.specs.Inquiries.{told_to, needed, source_of}
+use Rattle.query_run.specs.Inquiries.{told_to, source_of}
 use Rattle.query_run.specs.Kept.{IsSourceOf, IsServed}
 use Rattle.query_run.specs.Honest.{lists_of, HasTable, IsTrueOf, IsTrueFor, IsOnItsRun}
 use Rattle.query_run.proofs.Serving.{sound_at, rows_told, known_told, source_at}
 use Rattle.query_run.proofs.Honest.{list_is, on_its_run}
-use Rattle.query_run.specs.Asking.{access_of, AsksGradeOf}
+use Rattle.monotone_fn.proofs.Laws.{value-monotone}
+use Rattle.topk_theory.specs.Threshold.{IsAsked}
+use Rattle.machine_base.specs.Machine.{asked_of}
+use Rattle.query_core.proofs.AllFacts.{facts}
+use Rattle.query_run.specs.Asking.{run_on, IsCertainFor, AsksGradeOf}
 use Rattle.fetcher.specs.Telling.{TellsOf}
 use Rattle.batch_result.specs.Numbered.{told_at}
 use Rattle.batch_result.specs.declared.batch.Use.{Use}
@@ -69,43 +69,33 @@ module _ (lists : List (List Row)) (states : List State) (q : Inquiry) (sound : 
         drawn = drawn_more t.log.lists (told_to states q) (whole D) t.log.accesses (subst (λ m. Grows m (told_to states q) (whole D)) h.sources.many grows) h.drawn.drawn;
       }
 
--- a need that asks for a grade is of its object
-need_is : (n : Need) (list object grade : ℕ) → Contains (access_of n) (Random list object grade) → n ≡ need.Grade list object
-need_is (need.Row other depth) list object grade c = elim (contains_cases (Sorted other 0 0) [] (Random list object grade) c) [
-  | inl bad ↦ absurd (cc)
-  | inr none ↦ absurd (contains_nil (Random list object grade) none)
-]
-need_is (need.Grade other named) list object grade c = elim (contains_cases (Random other named 0) [] (Random list object grade) c) [
-  | inl same ↦ ap (λ (a : Access). need.Grade (list_of a) named) same ∙ ap (λ (a : Access). need.Grade list (object_of a)) same
-  | inr none ↦ absurd (contains_nil (Random list object grade) none)
-]
-need_is need.Done list object grade c = absurd (contains_nil (Random list object grade) c)
-
--- an object whose grade a query asked for stands in the list
-asked_of_list : (lists : List (List Row)) (states : List State) (q : Inquiry) (list object grade : ℕ) → IsServed states q
-    → AgreesWith (lists_of lists q) (state_of q.machine).log
-    → Contains ((state_of q.machine).log.accesses ++ access_of (needed q)) (Random list object grade)
+-- an object whose grade is certain for a query stands in the list
+asked_of_list : (lists : List (List Row)) (states : List State) (q : Inquiry) (list object : ℕ) → IsServed states q → list < length q.sources.items
+    → AgreesWith (lists_of lists q) (state_of q.machine).log → IsCertainFor q (need.Grade list object)
     → Contains (objects (list_at (lists_of lists q) list)) object
-asked_of_list lists states q list object grade h agrees c =
+asked_of_list lists states q list object h listed agrees certain =
     let t = state_of q.machine in
     let D = lists_of lists q in
-    elim (Contains-append_cases t.log.accesses (access_of (needed q)) (Random list object grade) c) [
-      | inl made ↦
-          let split = contains_splits t.log.accesses (Random list object grade) made in
-          let gives : Contains (list_at D list) (record { object = object; grade = grade })
-          = drawn_gives t.log.lists (whole D) split.0 (Random list object grade) split.1 (subst (IsDrawn t.log.lists (whole D)) split.2 agrees.drawn) in
-          contains_map (λ (row : Row). row.object) (list_at D list) (record { object = object; grade = grade }) gives
-      | inr next ↦
-          let serves : CanServe D (need.Grade list object) = subst (CanServe D) (need_is (needed q) list object grade next) (h.run.served D agrees) in
-          objects_in_each t.log.count D list object agrees.table serves.0 serves.1
-    ]
+    let many = h.sources.many in
+    let asked : IsAsked t.k t.log.count D = record {
+      table = agrees.table;
+      lists = let long = agrees.lists in omega (arith, long, many, listed);
+      positive = h.run.posed.positive;
+      fits = h.run.posed.fits;
+    } in
+    let run = (facts (method_of q.machine)).agrees (asked_of t) t.log.count D (value-monotone t.expr) asked in
+    let met = certain.met D agrees in
+    let split = contains_splits (run_on q D) (Random list object met.0) met.1 in
+    let gives : Contains (list_at D list) (record { object = object; grade = met.0 })
+    = drawn_gives (length D) (whole D) split.0 (Random list object met.0) split.1 (subst (IsDrawn (length D) (whole D)) split.2 run.drawn) in
+    contains_map (λ (row : Row). row.object) (list_at D list) (record { object = object; grade = met.0 }) gives
 
 pub named_in_list : (lists : List (List Row)) (states : List State) (q : Inquiry) (source object : ℕ) → IsServed states q
     → AgreesWith (lists_of lists q) (state_of q.machine).log → AsksGradeOf q source object → Contains (objects (list_at lists source)) object
 named_in_list lists states q source object h agrees asks =
     subst (λ s. Contains (objects (list_at lists s)) object) asks.of
     (subst (λ rows. Contains (objects rows) object) (list_is lists q.sources.items asks.list asks.listed)
-    (asked_of_list lists states q asks.list object asks.grade h agrees asks.asks))
+    (asked_of_list lists states q asks.list object h asks.listed agrees asks.asks))
 
 -- the lists that are told
 told_list : (lists : List (List Row)) (source : ℕ) → 1 ≤ length (list_at lists source) → told_at (map Some lists) source ≡ Some (list_at lists source)

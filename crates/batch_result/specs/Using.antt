@@ -1,6 +1,9 @@
 -- What queries used of a source, and what the source gave for it.
-use Rattle.std.specs.Prelude.{◌≡◌, ◌≢◌, ◌≤◌, ◌==◌, ◌&&◌, ◌*◌, ◌⊎◌, ℕ, Bool, true, false, Option, Some, None, List, length, Contains, count_by}
-use Rattle.std.specs.List.{sum_by}
+use Rattle.std.specs.Prelude.{◌≡◌, ◌≢◌, ◌≤◌, ◌==◌, ◌&&◌, ◌+◌, ◌*◌, ◌⊎◌, ℕ, Bool, true, false, Option, Some, None, List, ◌∷◌, length, Contains, count_by}
+use Rattle.std.specs.List.{AllZip}
+use Rattle.ranked_list.specs.declared.row.Row.{Row}
+use Rattle.access_log.specs.Log.{AgreesWith}
+use Rattle.query_core.specs.Machines.{state_of}
 use Rattle.tk_io.specs.Faults.{Rose}
 use Rattle.source_api.specs.declared.counts.Counts.{Counts}
 use Rattle.source_api.specs.declared.source.FailKind.{FailKind}
@@ -14,7 +17,7 @@ use Rattle.query_run.specs.declared.ended.Refusal.{Refusal}
 use Rattle.query_run.specs.declared.ended.Refusal.TheVariants.{Core, Look}
 use Rattle.query_run.specs.declared.inquiry.Inquiry.{Inquiry}
 use Rattle.query_run.specs.Inquiries.{source_of}
-use Rattle.query_run.specs.Asking.{IsAskedFor, AsksGradeOf, grades_asked}
+use Rattle.query_run.specs.Asking.{IsAskedFor, AsksGradeOf, grades_on}
 use Rattle.fetcher.specs.Causes.{HasGiven}
 use Rattle.fetcher.specs.Moving.{TellsMove}
 use Rattle.fetcher.specs.Metering.{WentUp, RoseBy}
@@ -51,27 +54,32 @@ refuses_for what source q (Some (Look list fault)) = is_fail what fault && sourc
 abbrev pub is_refused_for : FailKind → ℕ → Inquiry → Bool
 is_refused_for what source q = refuses_for what source q q.refusal
 
--- a depth is none, or one of these queries asked a list of this source for so many rows
+-- a depth is none, or so many rows of a list of this source are certain for one of these queries
 abbrev pub IsWantedBy : List Inquiry → ℕ → ℕ → Type 0
 IsWantedBy queries source depth = (depth ≡ 0) ⊎ ((q : Inquiry) × Contains queries q × IsAskedFor q source depth)
 
--- one of these queries asked a list of this source for the grade of an object
+-- the grade of an object in a list of this source is certain for one of these queries
 abbrev pub IsNamedBy : List Inquiry → ℕ → ℕ → Type 0
 IsNamedBy queries source object = (q : Inquiry) × Contains queries q × AsksGradeOf q source object
 
--- how many grades these queries asked a source for
-abbrev pub all_grades_asked : List Inquiry → ℕ → ℕ
-all_grades_asked queries source = sum_by (λ q. grades_asked q source) queries
+-- a table agrees with what a query read; how many grades the runs of queries on tables ask a source for
+abbrev pub AgreesWithRead : Inquiry → List (List Row) → Type 0
+AgreesWithRead q D = AgreesWith D (state_of q.machine).log
+
+abbrev pub all_grades_on : List Inquiry → List (List (List Row)) → ℕ → ℕ
+all_grades_on (q ∷ queries) (D ∷ tables) source = grades_on q source D + all_grades_on queries tables source
+all_grades_on _ _ source = 0
 
 -- what was used of a source, between what it had counted before and what it counts now. Its closing state has what the queries wanted of
--- it, which is what some query asked for, and no more grades than all asked for, each of an object that one of them named; the rows that it gave
+-- it, which is certain for one of them: whatever tables agree with what they read, the run of one of them reads so deep; and no more grades than the runs
+-- on such tables ask for, each of an object whose grade is certain for one of them; the rows that it gave
 -- are within the reach of the greatest depth that was wanted, whatever the number of the queries; and a grade was given for each object once at most,
 -- and settled it; and what the log has of rows and of faults came of so many rows
 pub record IsUsed (settings : Settings) (queries : List Inquiry) (source : ℕ) (s : State) (before now : Counts) (used : Use) : Type 0 where
   pub want : used.want ≡ s.want
   pub wanted : IsWantedBy queries source used.want
   pub asks : used.asks ≡ length s.asks
-  pub asked : used.asks ≤ all_grades_asked queries source
+  pub asked : (tables : List (List (List Row))) → AllZip AgreesWithRead queries tables → used.asks ≤ all_grades_on queries tables source
   pub named : (object : ℕ) → Contains s.asks object → IsNamedBy queries source object
   pub rows : WentUp used.rows before.rows_given now.rows_given
   pub reach : used.rows ≤ reach_of used.want settings.page settings.ahead s.count

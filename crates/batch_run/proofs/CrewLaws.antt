@@ -30,7 +30,6 @@ did_nothing : (source : ℕ) (hold : Hold) → hold.pass.1.high ≡ 0 → hold.p
     → hold.waiting.need ≡ None → DidOf [] source hold
 did_nothing source hold high asked mine none rests = record {
   rows = inl high;
-  grades = omega (arith, asked);
   mine = λ object c. absurd (contains_nil object (subst (λ os. Contains os object) mine c));
   failed = omega arith;
   garbled = omega arith;

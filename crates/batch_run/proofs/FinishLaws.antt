@@ -30,7 +30,6 @@ use Rattle.query_run.specs.Inquiries.{source_needed}
 use Rattle.query_run.specs.Kept.{IsServed}
 use Rattle.query_run.specs.Made.{IsOf}
 use Rattle.query_run.specs.Endings.{EndsAs, IsRight}
-use Rattle.query_run.specs.Asking.{grades_asked}
 use Rattle.fetcher.specs.Causes.{HasGiven}
 use Rattle.fetcher.specs.Chaining.{moment, IsFetched}
 use Rattle.fetcher.specs.Telling.{TellsOf}
@@ -44,7 +43,7 @@ use Rattle.batch_result.specs.Numbered.{told_at, version_at, counts_at}
 use Rattle.batch_result.specs.declared.batch.Use.{Use}
 use Rattle.batch_run.specs.declared.work.Worker.{Worker}
 use Rattle.batch_run.specs.Shares.{share, share_from}
-use Rattle.batch_result.specs.Using.{is_refused_for, IsWantedBy, IsNamedBy, all_grades_asked, IsUsed, HasCounted}
+use Rattle.batch_result.specs.Using.{is_refused_for, IsWantedBy, IsNamedBy, all_grades_on, IsUsed, HasCounted}
 use Rattle.batch_result.specs.Refusing.{IsByOwnTurns}
 use Rattle.batch_result.specs.Batches.{batch_of, use_at, IsClosing, IsSpared, IsBatch}
 use Rattle.batch_result.specs.Cut.{IsReadBy, IsOfBegun, begun, IsCut}
@@ -52,7 +51,8 @@ use Rattle.batch_run.specs.Working.{End, IsEndOf, StoodIf, DidOf, RanAll}
 use Rattle.batch_run.specs.Slots.{SlotState, slot_at}
 use Rattle.batch_run.specs.Crews.{IsBase, HasLeft, HasFetched, Rejoins}
 use Rattle.batch_run.specs.Finishing.{AreShares, UsedOf, slots_run}
-use Rattle.batch_run.proofs.SumLaws.{sum_up, sum_up_bound, sum_by_most}
+use Rattle.batch_result.proofs.AccountLaws.{asks_on}
+use Rattle.batch_run.proofs.SumLaws.{sum_up, sum_up_bound}
 use Rattle.batch_run.proofs.ShareLaws.{HasShares, whole_of, shares_add}
 use Rattle.batch_result.proofs.Places.{map_at, stands_at}
 use Rattle.batch_run.proofs.Picks.{Picked, picked, sum_ones, share_member, share_map, share_long}
@@ -309,19 +309,6 @@ begun_ended : (ends : List End) → begun (map (λ (end : End). Some end.0) ends
 begun_ended [] = refl
 begun_ended (end ∷ ends) = ap (λ qs. end.0 ∷ qs) (begun_ended ends)
 
--- the grades that a query asked for, if it began
-abbrev asked_if : ℕ → Option Inquiry → ℕ
-asked_if source None = 0
-asked_if source (Some q) = grades_asked q source
-
-asked_more : (source : ℕ) (one : Option Inquiry) (stood : List (Option Inquiry))
-    → all_grades_asked (begun (one ∷ stood)) source ≡ asked_if source one + all_grades_asked (begun stood) source
-asked_more source None stood =
-    let none : asked_if source None ≡ 0 = refl in
-    let same : all_grades_asked (begun (None ∷ stood)) source ≡ all_grades_asked (begun stood) source = refl in
-    omega (arith, none, same)
-asked_more source (Some q) stood = sum_by-cons (λ (p : Inquiry). grades_asked p source) q (begun stood)
-
 -- what worked together
 pub record Situation (pool : List TableId) (settings : Settings) (counts : List ℕ) (readies : List Ready) (before after : List SlotState) (workers : List Worker)
     (base pass : List Hold) (feeds : List Feed) (states : List State) (uses : List Use) : Type 0 where
@@ -435,25 +422,6 @@ module _ (pool : List TableId) (settings : Settings) (counts : List ℕ) (readie
         let want : (state_at states source).want ≡ (hold_at pass source).pass.1.high = closed.want ∙ (ap (λ n. max n (hold_at pass source).pass.1.high) none ∙ omega arith) in
         subst (IsWantedBy those source) (sym want) (high_by source s)
 
-    -- what was asked
-    asked_by : (source : ℕ) → source < length counts → (hold_at pass source).pass.1.asked ≤ all_grades_asked those source
-    asked_by source s =
-        let g : ℕ → ℕ = λ i. all_grades_asked (begun (share_from (length workers) i 0 stood)) source in
-        let m : List (Option Inquiry) → ℕ = λ xs. all_grades_asked (begun xs) source in
-        let long = length-map workers (λ (w : Worker). w.pass) in
-        let most : sum_by (λ (p : List Hold). (hold_at p source).pass.1.asked) (passes workers) ≤ sum_up g (length (passes workers)) =
-        sum_by_most (λ (p : List Hold). (hold_at p source).pass.1.asked) g (passes workers)
-        (λ i d l.
-        let within : i < length workers = subst (λ n. i < n) long l in
-        let e = (stands_at workers i within).item in
-        subst (λ (p : List Hold). (hold_at p source).pass.1.asked ≤ g i) (sym (pass_at workers i d e within)) (did i e within source).grades) in
-        let all : sum_up g (length workers) ≡ m stood =
-        shares_add (asked_if source) m refl (λ x xs. asked_more source x xs) (length workers) 0 stood some in
-        let mine = h.rejoins.asked source (there source s) in
-        let none = h.base_is.asked source s in
-        let up : sum_up g (length (passes workers)) ≡ sum_up g (length workers) = ap (sum_up g) long in
-        omega (arith, most, all, mine, none, up)
-
     -- which objects were asked
     named_from : (source object i : ℕ) → IsNamedBy (begun (share_from (length workers) i 0 stood)) source object
         → IsNamedBy those source object
@@ -479,13 +447,6 @@ module _ (pool : List TableId) (settings : Settings) (counts : List ℕ) (readie
           | inr passed ↦ mine_by source object s passed
         ]
 
-    asks_by : (source : ℕ) → source < length counts → length (state_at states source).asks ≤ all_grades_asked those source
-    asks_by source s =
-        let closed = (h.closed.each source (there source s)).asks in
-        let none : (feed_at feeds source).pass.1.asked ≡ 0 = (h.fetched source s).feeds.asked in
-        let asked = asked_by source s in
-        omega (arith, closed, none, asked)
-
     used_by : (source : ℕ) → source < length counts
         → IsUsed settings those source (state_at states source) (slot_at before source).counts (slot_at after source).counts (use_at uses source)
     used_by source s =
@@ -499,7 +460,8 @@ module _ (pool : List TableId) (settings : Settings) (counts : List ℕ) (readie
           want = u.want;
           wanted = subst (IsWantedBy those source) (sym u.want) (want_by source s);
           asks = u.asks;
-          asked = subst (λ n. n ≤ all_grades_asked those source) (sym u.asks) (asks_by source s);
+          asked = λ tables agree. subst (λ n. n ≤ all_grades_on those tables source) (sym u.asks)
+              (asks_on source those tables (state_at states source).asks agree (h.closed.each source (there source s)).sound.distinct (λ object c. named_by source object s c));
           named = λ object c. named_by source object s c;
           rows = subst (λ n. WentUp n (slot_at before source).counts.rows_given (slot_at after source).counts.rows_given) (sym u.rows) metered.rows;
           reach = subst (λ n. (use_at uses source).rows ≤ reach_of n settings.page settings.ahead (state_at states source).count) (sym u.want) (omega (arith, rows, same));

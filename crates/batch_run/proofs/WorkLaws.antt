@@ -1,10 +1,10 @@
 -- What a worker has done so far.
-use Rattle.std.proofs.Common.{◌≡◌, ◌≢◌, ◌≤◌, ◌<◌, ◌==◌, ◌&&◌, ◌+◌, ◌%◌, inl, inr, ℕ, min, Bool, true, false, cond, Option, Some, None, List, [], ◌∷◌, ◌++◌, length, map, take, reverse, All, count_by, slice_index_or, refl, sym, ap, subst, ◌∙◌, arith, le_trans}
+use Rattle.std.proofs.Common.{◌≡◌, ◌≢◌, ◌≤◌, ◌<◌, ◌==◌, ◌&&◌, ◌+◌, ◌%◌, inl, inr, ℕ, min, Bool, true, false, cond, Option, Some, None, List, [], ◌∷◌, ◌++◌, length, map, take, reverse, All, Contains, count_by, slice_index_or, refl, sym, ap, subst, ◌∙◌, arith, le_trans}
 use Rattle.std.specs.List.{AllZip}
 use Rattle.std.proofs.lemmas.Bool.Decides.{eqb_tells}
 use Rattle.std.proofs.lemmas.List.{length-take, map-append}
 use Rattle.std.proofs.lemmas.List.{take_more, take_all}
-use Rattle.std.proofs.lemmas.List.Elements.{Contains-append_left, Contains-append_right}
+use Rattle.std.proofs.lemmas.List.Elements.{Contains-append_left, Contains-append_right, Contains-append_cases}
 use Rattle.std.proofs.lemmas.List.Sums.{sum_by_push}
 use Rattle.topk_theory.proofs.AgreementLists.{contains_here, member_of_all, all_from_members}
 use Rattle.turn_lock.specs.declared.facts.Tally.{Tally}
@@ -24,12 +24,12 @@ use Rattle.query_run.specs.declared.inquiry.Inquiry.{Inquiry}
 use Rattle.query_run.specs.Endings.{IsRight}
 use Rattle.query_run.specs.Inquiries.{source_of}
 use Rattle.query_run.specs.Advancing.{HasSourcesIn, IsSourceIn, KnowsMore, Advances}
-use Rattle.query_run.specs.Asking.{Wanted, grades_asked}
+use Rattle.query_run.specs.Asking.{AsksGradeOf, Wanted}
 use Rattle.query_run.specs.Ran.{Ran, RanSome, shown_to}
 use Rattle.query_run.proofs.Stops.{knows_more}
 use Rattle.batch_run.specs.declared.work.Worker.{Worker}
 use Rattle.batch_run.specs.Shares.{share, share_from}
-use Rattle.batch_result.specs.Using.{is_fail, refuses_for, is_refused_for, IsWantedBy, IsNamedBy, all_grades_asked}
+use Rattle.batch_result.specs.Using.{is_fail, refuses_for, is_refused_for, IsWantedBy, IsNamedBy}
 use Rattle.batch_result.specs.Cut.{begun}
 use Rattle.batch_run.specs.Working.{KnowsAll, End, IsEndOf, StoodIf, DidOf, RanAll, RanOne, RanSo, HasBegun, HasWorked}
 use Rattle.batch_run.proofs.ShareLaws.{share_push, share_here, share_else}
@@ -126,7 +126,16 @@ wanted_on : (queries : List Inquiry) (q : Inquiry) (source high more : ℕ) → 
     → IsWantedBy (queries ++ q ∷ []) source more
 wanted_on queries q source high more le (inl none) = inl (omega (arith, le, none))
 wanted_on queries q source high more le (inr some) =
-    inr (some.0, Contains-append_left queries (q ∷ []) some.0 some.1, record { list = some.2.list; listed = some.2.listed; of = some.2.of; deep = le_trans le some.2.deep })
+    inr (
+      some.0,
+      Contains-append_left queries (q ∷ []) some.0 some.1,
+      record {
+        list = some.2.list;
+        listed = some.2.listed;
+        of = some.2.of;
+        deep = record { met = λ D agrees. le_trans le (some.2.deep.met D agrees) };
+      },
+    )
 
 named_on : (queries : List Inquiry) (q : Inquiry) (source object : ℕ) → IsNamedBy queries source object → IsNamedBy (queries ++ q ∷ []) source object
 named_on queries q source object some = (some.0, Contains-append_left queries (q ∷ []) some.0 some.1, some.2)
@@ -138,14 +147,9 @@ did_more queries q source before after did more shown wanted = record {
     | inl le ↦ wanted_on queries q source before.pass.1.high after.pass.1.high le did.rows
     | inr asked ↦ inr (q, Contains-append_right queries (q ∷ []) q (contains_here q []), asked)
   ];
-  grades =
-      let total : all_grades_asked (queries ++ q ∷ []) source ≡ all_grades_asked queries source + grades_asked q source = sum_by_push (λ r. grades_asked r source) queries q in
-      let now = wanted.grades in
-      let was = did.grades in
-      omega (arith, total, now, was);
-  mine = λ object c. elim (wanted.mine object c) [
+  mine = λ object c. elim (Contains-append_cases before.pass.1.mine wanted.news object (subst (λ os. Contains os object) wanted.mine c)) [
     | inl old ↦ named_on queries q source object (did.mine object old)
-    | inr asked ↦ (q, Contains-append_right queries (q ∷ []) q (contains_here q []), asked)
+    | inr asked ↦ (q, Contains-append_right queries (q ∷ []) q (contains_here q []), member_of_all (AsksGradeOf q source) wanted.news object wanted.each asked)
   ];
   failed = subst (λ n. min n last_count ≤ after.shown.failed) (sym (sum_by_push (λ r. cond (is_refused_for kind.Failed source r) 1 0) queries q))
       (one_counted (is_refused_for kind.Failed source q) (count_by (is_refused_for kind.Failed source) queries) before.shown.failed after.shown.failed did.failed

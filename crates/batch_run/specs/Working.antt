@@ -22,7 +22,7 @@ use Rattle.query_run.specs.Failing.{LookRefused}
 use Rattle.query_run.specs.Ran.{Ran, RanSome}
 use Rattle.batch_run.specs.declared.work.Worker.{Worker}
 use Rattle.batch_run.specs.Shares.{share}
-use Rattle.batch_result.specs.Using.{is_refused_for, IsWantedBy, IsNamedBy, all_grades_asked}
+use Rattle.batch_result.specs.Using.{is_refused_for, IsWantedBy, IsNamedBy}
 use Rattle.batch_result.specs.Batches.{IsSpared}
 use Rattle.batch_result.specs.Cut.{begun}
 
@@ -60,11 +60,10 @@ pub record IsStood (holds : List Hold) (ready : Ready) (q : Inquiry) : Type 0 wh
 abbrev pub StoodIf : List Hold → Ready → Option Inquiry → Type 0
 StoodIf holds ready stood = IfSome stood (IsStood holds ready)
 
--- what these queries did of a source through a pass: it was raised no further than they asked, no more asks were added than they asked
--- for grades, each for an object that one of them named, and each of them that was refused for a fail was shown one, which the pass knows of
+-- what these queries did of a source through a pass: it was raised no further than is certain for one of them, each ask that was added is for an object
+-- whose grade is certain for one of them, and each of them that was refused for a fail was shown one, which the pass knows of
 pub record DidOf (queries : List Inquiry) (source : ℕ) (hold : Hold) : Type 0 where
   pub rows : IsWantedBy queries source hold.pass.1.high
-  pub grades : hold.pass.1.asked ≤ all_grades_asked queries source
   pub mine : (object : ℕ) → Contains hold.pass.1.mine object → IsNamedBy queries source object
   pub failed : min (count_by (is_refused_for kind.Failed source) queries) last_count ≤ hold.shown.failed
   pub garbled : min (count_by (is_refused_for kind.Garbled source) queries) last_count ≤ hold.shown.garbled

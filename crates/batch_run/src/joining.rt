@@ -14,12 +14,6 @@ pub fn rejoin(pool: &Pool, pass: &mut PoolPass, mut workers: Vec<Worker>)
     ensures { Rejoins pool.now (map (λ worker. worker.pass) workers.items) pass.old pass.new }
 {
     while let Some(worker) = workers.pop() {
-        let Worker {
-            pass: other,
-            ended,
-            ..
-        } = worker;
-        drop(ended);
-        pool.join(pass, other);
+        pool.join(pass, worker.into_pass());
     }
 }

@@ -19,7 +19,6 @@ use std::alloc::Global;
 use std::sync::Wait;
 
 /// A worker, with its number from 0 and its pass of the pool.
-#[derive(Drop)]
 pub struct Worker {
     /// Its number from 0.
     pub number: u32,
@@ -31,8 +30,35 @@ pub struct Worker {
     pub short: bool,
 }
 
+/// Written here, and not derived, so that a crate that lets a worker go calls this.
+impl Drop for Worker {
+    fn drop(self) {
+        let Worker {
+            number: _,
+            pass: _pass,
+            ended: _ended,
+            short: _,
+        } = self;
+    }
+}
+
+impl Worker {
+    /// Its pass of the pool.
+    pub(crate) fn into_pass(self) -> PoolPass
+        ensures { result ≡ self.pass }
+    {
+        let Worker {
+            number: _,
+            pass,
+            ended: _ended,
+            short: _,
+        } = self;
+        pass
+    }
+}
+
 /// Runs a query, and keeps how it ended. Room for its ending is taken first.
-fn run_one<P, F: Fn(u32, u64, &mut P)>(
+fn run_one<P, F: Fn(u32, u64, &mut P), G: Fn(u32) -> bool, H: Fn(u32)>(
     rt: &impl Wait,
     alloc: Global,
     pool: &Pool,
@@ -40,10 +66,14 @@ fn run_one<P, F: Fn(u32, u64, &mut P)>(
     ready: &Ready,
     serve: &F,
     by: &mut P,
+    far: &G,
+    wake: &H,
 )
     requires ready { IsReady ready.now }
     requires own { IsPassOf pool.now worker.old.pass }
     requires serves { ServesAll F.Fn serve.now (length pool.now) by.old }
+    requires far { G.IsAlwaysCallable far.now }
+    requires wake { H.IsAlwaysCallable wake.now }
     requires rests { WaitsForNothing worker.old.pass }
     requires sources { HasSourcesIn worker.old.pass ready.now }
     ensures served { by.new ≡ by.old }
@@ -55,7 +85,17 @@ fn run_one<P, F: Fn(u32, u64, &mut P)>(
         worker.short = true;
         return;
     }
-    match run_query_by(rt, alloc, pool, &mut worker.pass, ready, serve, by) {
+    match run_query_by(
+        rt,
+        alloc,
+        pool,
+        &mut worker.pass,
+        ready,
+        serve,
+        by,
+        far,
+        wake,
+    ) {
         Ok(ended) => worker.ended.push_reserved(ended),
         Err(_) => worker.short = true,
     }
@@ -82,12 +122,24 @@ pub(crate) fn work<W: Wait, S: Source>(
         requires { MayServe posts.now pool.now pass.now × (source < length pool.now) }
         ensures { pass.exit.now ≡ pass.entry.now }
     { serve_or_wait(rt, alloc, pool, posts, pass, source as usize) };
+    let far = |source: u32| posts.is_far(source as usize);
+    let wake = |source: u32| posts.wake_fetcher(source as usize);
     let Hand { worker, pass } = hand;
     for place in 0..queries.len() {
         if worker.short || place % workers != worker.number as usize {
             continue;
         }
-        run_one(rt, alloc, pool, worker, &queries[place], &serve, pass);
+        run_one(
+            rt,
+            alloc,
+            pool,
+            worker,
+            &queries[place],
+            &serve,
+            pass,
+            &far,
+            &wake,
+        );
     }
     worker.ended.reverse();
 }

@@ -17,7 +17,6 @@ use std::sync::Wait;
 use turn_lock::Bell;
 
 /// The slots of all sources, in their order, behind one lock, and a bell for each fetcher.
-#[derive(Drop)]
 pub struct Posts<S: Source> {
     pub lock: KeyedLock<Slot<S>>,
     /// How many rows a page has at most, and how many pages are read ahead.
@@ -25,8 +24,24 @@ pub struct Posts<S: Source> {
     pub ahead: u32,
     /// Where the fetcher of a source sleeps until there are rows to read ahead.
     pub bells: Vec<Bell>,
+    /// Of each source whether it is far.
+    pub far: Vec<bool>,
     /// Set once all workers have worked.
     pub stop: Stop,
+}
+
+/// Written here, and not derived, so that a crate that lets posts go calls this.
+impl<S: Source> Drop for Posts<S> {
+    fn drop(self) {
+        let Posts {
+            lock: _lock,
+            page: _,
+            ahead: _,
+            bells: _bells,
+            far: _far,
+            stop: _stop,
+        } = self;
+    }
 }
 
 /// So many bells.
@@ -38,6 +53,15 @@ fn make_bells(alloc: Global, count: usize) -> Result<Vec<Bell>, AllocError>
         bells.push_reserved(Bell::make());
     }
     Ok(bells)
+}
+
+/// Of each source whether it is far.
+fn find_far<S: Source>(alloc: Global, slots: &Vec<Slot<S>>) -> Result<Vec<bool>, AllocError> {
+    let mut far = Vec::with_capacity(alloc, slots.len())?;
+    for place in 0..slots.len() {
+        far.push_reserved(slots[place].source.is_far());
+    }
+    Ok(far)
 }
 
 /// One turn at the post of a source, where no other thread has it.
@@ -131,6 +155,9 @@ impl<S: Source> Posts<S> {
         let Ok(bells) = make_bells(alloc, slots.len()) else {
             return None;
         };
+        let Ok(far) = find_far(alloc, slots) else {
+            return None;
+        };
         match KeyedLock::open(alloc, &began, slots) {
             Ok((lock, pass)) => Some((
                 Posts {
@@ -138,6 +165,7 @@ impl<S: Source> Posts<S> {
                     page,
                     ahead,
                     bells,
+                    far,
                     stop: Stop::make(),
                 },
                 pass,
@@ -155,7 +183,14 @@ impl<S: Source> Posts<S> {
         ensures { AreServed S.list S.counts S.calls S.at_hand S.states self.lock.key.pool.value self.lock.key.page self.lock.key.ahead
             self.lock.key.slots.value.items slots.new.items }
     {
-        let Posts { lock, .. } = self;
+        let Posts {
+            lock,
+            page: _,
+            ahead: _,
+            bells: _bells,
+            far: _far,
+            stop: _stop,
+        } = self;
         lock.close(pass, slots);
     }
 
@@ -167,6 +202,21 @@ impl<S: Source> Posts<S> {
             && self.ahead > 0
         {
             self.bells[place].ring();
+        }
+    }
+
+    /// Whether a source is far.
+    pub fn is_far(&self, place: usize) -> bool {
+        match self.far.get(place) {
+            Some(far) => *far,
+            None => false,
+        }
+    }
+
+    /// Wakes the fetcher of a source.
+    pub fn wake_fetcher(&self, place: usize) {
+        if let Some(bell) = self.bells.get(place) {
+            bell.ring();
         }
     }
 

@@ -7,11 +7,21 @@ use source_api::Source;
 use source_pool::Feeder;
 
 /// A source, its feeder while a run goes on, and what was fetched of it.
-#[derive(Drop)]
 pub struct Slot<S: Source> {
     pub source: S,
     pub feeder: Option<Feeder>,
     pub fetched: Fetched,
+}
+
+/// Written here, and not derived, so that a crate that lets a slot go calls this.
+impl<S: Source> Drop for Slot<S> {
+    fn drop(self) {
+        let Slot {
+            source: _source,
+            feeder: _feeder,
+            fetched: _,
+        } = self;
+    }
 }
 
 impl<S: Source> Slot<S> {
@@ -31,7 +41,11 @@ impl<S: Source> Slot<S> {
         requires { self.feeder ≡ None }
         ensures { result ≡ self.source }
     {
-        let Slot { source, .. } = self;
+        let Slot {
+            source,
+            feeder: _feeder,
+            fetched: _,
+        } = self;
         source
     }
 }

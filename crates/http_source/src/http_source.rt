@@ -230,6 +230,10 @@ impl<D: Dial + Send + Drop> Source for HttpSource<D> {
         self.at_hand()
     }
 
+    fn is_far(&self) -> bool {
+        true
+    }
+
     ghost distinct = { λ _. tt };
 }
 

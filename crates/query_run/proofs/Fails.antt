@@ -44,6 +44,19 @@ all_turns n before now after source other answer others looks h = elim (eqb_tell
   | inr f ↦ subst (λ (hold : Hold). IsFrontOf (hold_at before other).pass.1.gave hold.pass.1.gave) (sym (others.stay other f.1)) h
 ]
 
+-- what was called for once, was called for after more turns
+pub called_front : (m : Need) (noted : Tally) (before now after : Known LogEntry) → IsFrontOf now.gave after.gave → HasCalledFor m noted before now
+    → HasCalledFor m noted before after
+called_front m noted before now after front h = record {
+  earlier = h.earlier;
+  call = h.call;
+  later = h.later ++ front.rest;
+  turns = front.goes_on ∙ (ap (λ gave. gave ++ front.rest) h.turns ∙ (append_assoc before.gave (h.earlier ++ h.call ∷ h.later) front.rest
+      ∙ ap (λ rest. before.gave ++ rest) (append_assoc h.earlier (h.call ∷ h.later) front.rest)));
+  calls = h.calls;
+  tally = h.tally;
+}
+
 -- what was called for once, was called for after one more turn
 pub called_on : (m : Need) (noted : Tally) (before now after : Known LogEntry) (given : Facts LogEntry) → after.gave ≡ now.gave ++ given ∷ []
     → HasCalledFor m noted before now → HasCalledFor m noted before after

@@ -20,3 +20,4 @@ mod Steps
 mod Fails
 mod Stands
 pub mod Stops
+mod Ahead

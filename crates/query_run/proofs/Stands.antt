@@ -6,7 +6,7 @@ use Rattle.ranked_list.specs.declared.need.Need.TheVariants as need
 use Rattle.ranked_list.proofs.OptionLaws.{option_cases}
 use Rattle.turn_lock.specs.declared.facts.Tally.{Tally}
 use Rattle.turn_lock.specs.Facts.{IsFrontOf, AtMost}
-use Rattle.turn_lock.proofs.Growth.{at_most_same}
+use Rattle.turn_lock.proofs.Growth.{at_most_same, begins_same, begins_on}
 use Rattle.topk_theory.specs.Transcript.{Grows}
 use Rattle.topk_theory.proofs.Agreement.{drawn_more}
 use Rattle.machine_base.specs.Machine.{MachineState}
@@ -23,8 +23,8 @@ use Rattle.source_state.proofs.Lists.{none_not_some, eqb_same}
 use Rattle.source_pool.specs.declared.hold.Hold.{Hold}
 use Rattle.source_pool.specs.Passes.{hold_at, OthersStay}
 use Rattle.source_pool.specs.Looks.{Answers as LookAnswers}
-use Rattle.source_pool.specs.Looks.{KeepsMarks, shown_fault, Ends, BeginsToWait, IsLook, IsTurn}
-use Rattle.query_core.specs.Machines.{state_of, MakesItsRun}
+use Rattle.source_pool.specs.Looks.{KeepsMarks, KnowsOn, shown_fault, Ends, BeginsToWait, IsLook, IsTurn}
+use Rattle.query_core.specs.Machines.{method_of, state_of, MakesItsRun}
 use Rattle.query_run.specs.declared.ended.Refusal.TheVariants as refusal
 use Rattle.query_run.specs.declared.inquiry.Inquiry.{Inquiry}
 use Rattle.query_run.specs.Inquiries.{told_to, needed, list_needed, source_of, source_needed, is_done}
@@ -35,13 +35,13 @@ use Rattle.query_run.proofs.Causes.{refusal_cause}
 use Rattle.source_pool.specs.Seen.{state_seen}
 use Rattle.query_run.specs.Seen.{states_seen}
 use Rattle.query_run.specs.Advancing.{WaitsForNothing, IsSourceIn}
-use Rattle.query_run.specs.Asking.{Wanted}
+use Rattle.query_run.specs.Asking.{IsCertainFor, Wanted}
 use Rattle.query_run.specs.Failing.{HasCalledFor, RefusedBy, LookRefused}
 use Rattle.query_run.specs.Ran.{shown_to}
-use Rattle.query_run.specs.Looking.{FeedsFrom, IsReading, WantsOf, WaitsAt, IsOnItsWay, with_waiting, HasStopped}
+use Rattle.query_run.specs.Looking.{FeedsFrom, IsReading, WaitsAt, IsOnItsWay, with_waiting, HasStopped}
 use Rattle.query_run.proofs.SeenLaws.{state_is, seen_long, told_goes}
-use Rattle.query_run.proofs.AskingLaws.{AsksMore, WasGiven, same_asks, wanted_more}
-use Rattle.query_run.proofs.Wants.{marks_same, wanted_kept, wants_given, wants_still, wants_begun}
+use Rattle.query_run.proofs.AskingLaws.{AsksMore, WasGiven, same_asks, given_asks}
+use Rattle.query_run.proofs.Wants.{marks_same, wanted_none, wanted_on, need_called, wanted_more}
 use Rattle.query_run.proofs.Steps.{Place}
 use Rattle.query_run.proofs.Fails.{all_turns, gave_one, called_on, called_first, refused_by}
 
@@ -58,9 +58,15 @@ pub record Over (now after : Hold) : Type 0 where
   pub none : after.waiting.need ≡ None
   pub noted : after.waiting.noted ≡ now.waiting.noted
   pub marks : KeepsMarks now.pass.1 after.pass.1
+  pub met : IsFrontOf now.pass.1.met after.pass.1.met
 
-pub over_of : (now after : Hold) → Ends now after → Over now after
-over_of now after h = record { none = ap (λ (w : Waiting). w.need) h.over; noted = ap (λ (w : Waiting). w.noted) h.over; marks = h.marks }
+pub over_of : (now after : Hold) → KnowsOn now.pass.1 after.pass.1 → Ends now after → Over now after
+over_of now after knows h = record {
+  none = ap (λ (w : Waiting). w.need) h.over;
+  noted = ap (λ (w : Waiting). w.noted) h.over;
+  marks = h.marks;
+  met = knows.follows.met;
+}
 
 -- at every source: nothing is waited for after such a look, and the marks stay
 all_rest : (before now after : List Hold) (q : Inquiry) → IsOnItsWay before now q → OthersStay (source_needed q) now after
@@ -72,12 +78,23 @@ all_rest before now after q h others over = record {
   ];
 }
 
-all_marks : (now after : List Hold) (source other : ℕ) → OthersStay source now after → KeepsMarks (hold_at now source).pass.1 (hold_at after source).pass.1
-    → KeepsMarks (hold_at now other).pass.1 (hold_at after other).pass.1
-all_marks now after source other others marks = elim (eqb_tells other source) [
-  | inl t ↦ subst (λ s. KeepsMarks (hold_at now s).pass.1 (hold_at after s).pass.1) (sym t.1) marks
-  | inr f ↦ marks_same (hold_at now other) (hold_at after other) (others.stay other f.1)
+-- what the pass met at every source goes on, and what a look wanted at its own source is all that it wanted
+pub all_met : (now after : List Hold) (source other : ℕ) → OthersStay source now after → IsFrontOf (hold_at now source).pass.1.met (hold_at after source).pass.1.met
+    → IsFrontOf (hold_at now other).pass.1.met (hold_at after other).pass.1.met
+all_met now after source other others met = elim (eqb_tells other source) [
+  | inl t ↦ subst (λ s. IsFrontOf (hold_at now s).pass.1.met (hold_at after s).pass.1.met) (sym t.1) met
+  | inr f ↦ subst (λ (hold : Hold). IsFrontOf (hold_at now other).pass.1.met hold.pass.1.met) (sym (others.stay other f.1)) (begins_same (hold_at now other).pass.1.met)
 ]
+
+pub all_wants : (before now after : List Hold) (q : Inquiry) (source other : ℕ) → IsOnItsWay before now q → OthersStay source now after
+    → IsFrontOf (hold_at now source).pass.1.met (hold_at after source).pass.1.met
+    → Wanted q source (hold_at now source).pass.1 (hold_at after source).pass.1 → Wanted q other (hold_at before other).pass.1 (hold_at after other).pass.1
+all_wants before now after q source other h others met wanted =
+    wanted_on q other (hold_at before other).pass.1 (hold_at now other).pass.1 (hold_at after other).pass.1 (h.meets other) (all_met now after source other others met) (h.wants other)
+    (elim (eqb_tells other source) [
+      | inl t ↦ subst (λ s. Wanted q s (hold_at now s).pass.1 (hold_at after s).pass.1) (sym t.1) wanted
+      | inr f ↦ wanted_none q other (hold_at now other).pass.1 (hold_at after other).pass.1 (marks_same (hold_at now other) (hold_at after other) (others.stay other f.1))
+    ])
 
 all_shown : (before now after : List Hold) (source other : ℕ) → OthersStay source now after → (hold_at after source).shown ≡ (hold_at now source).shown
     → (hold_at now other).shown ≡ (hold_at before other).shown → (hold_at after other).shown ≡ (hold_at before other).shown
@@ -94,9 +111,10 @@ pub open_given : (before now after : List Hold) (q r : Inquiry) (answer : Look) 
 open_given before now after q r answer h looks others over shown given = record {
   waits = λ source n e. absurd (none_not_some (sym ((all_rest before now after q h others over).rests source) ∙ e));
   shown = λ source. all_shown before now after (source_needed q) source others shown (h.shown source);
-  wants = λ source. wants_given q r source (hold_at before source) (hold_at now source) (hold_at after source) given
-      (all_marks now after (source_needed q) source others over.marks) (h.wants source);
+  wants = λ source. wanted_more q r source (hold_at before source).pass.1 (hold_at after source).pass.1 (given_asks q r given)
+      (all_wants before now after q (source_needed q) source h others over.met (wanted_none q (source_needed q) _ _ over.marks));
   turns = λ source. all_turns (needed q) before now after (source_needed q) source answer others looks (h.turns source);
+  meets = λ source. begins_on (h.meets source) (all_met now after (source_needed q) source others over.met);
 }
 
 -- a query that waits, for what it needs
@@ -154,24 +172,21 @@ begun_waits before now after q r n answer front turn sources same going most beg
 pub open_waits : (before now after : List Hold) (q r : Inquiry) → Place now q → IsOnItsWay before now q
     → IsTurn (needed q) (hold_at now (source_needed q)) (hold_at after (source_needed q)) look.NotYet → OthersStay (source_needed q) now after
     → (hold_at after (source_needed q)).shown ≡ (hold_at now (source_needed q)).shown
-    → r.sources.items ≡ q.sources.items → state_of r.machine ≡ state_of q.machine → is_done (needed q) ≡ false
+    → r.sources.items ≡ q.sources.items → method_of r.machine ≡ method_of q.machine → state_of r.machine ≡ state_of q.machine → is_done (needed q) ≡ false
     → AtMost (hold_at before (source_needed q)).pass.1.tally (hold_at after (source_needed q)).pass.1.tally
+    → IsFrontOf (hold_at now (source_needed q)).pass.1.met (hold_at after (source_needed q)).pass.1.met → IsCertainFor q (needed q)
     → Rattle.source_pool.specs.Looks.Waits (needed q) (hold_at now (source_needed q)) (hold_at after (source_needed q)) look.NotYet → IsOnItsWay before after r
-open_waits before now after q r place h turn others shown sources same going most waits = record {
+open_waits before now after q r place h turn others shown sources method same going most met certain waits = record {
   waits = λ source n e. elim (eqb_tells source (source_needed q)) [
     | inl t ↦ subst (λ s. WaitsAt r s n (hold_at before s) (hold_at after s)) (sym t.1)
         (here n (subst (λ s. (hold_at after s).waiting.need ≡ Some n) t.1 e))
     | inr f ↦ absurd (none_not_some (sym (ap (λ (hold : Hold). hold.waiting.need) (others.stay source f.1) ∙ waits_elsewhere before now q source h f.1) ∙ e))
   ];
   shown = λ source. all_shown before now after (source_needed q) source others shown (h.shown source);
-  wants = λ source. elim (eqb_tells source (source_needed q)) [
-    | inl t ↦ subst (λ s. WantsOf r s (hold_at before s) (hold_at after s)) (sym t.1) wants_here
-    | inr f ↦
-        let stays = others.stay source f.1 in
-        wants_still q r source (hold_at before source) (hold_at now source) (hold_at after source) sources same (marks_same (hold_at now source) (hold_at after source) stays)
-        (ap (λ (hold : Hold). hold.waiting) stays) (h.wants source)
-  ];
+  wants = λ source. wanted_more q r source (hold_at before source).pass.1 (hold_at after source).pass.1 (same_asks q r sources method same)
+      (all_wants before now after q (source_needed q) source h others met wants_here);
   turns = λ source. all_turns (needed q) before now after (source_needed q) source look.NotYet others (inr turn) (h.turns source);
+  meets = λ source. begins_on (h.meets source) (all_met now after (source_needed q) source others met);
 }
   where
     here : (n : Need) → (hold_at after (source_needed q)).waiting.need ≡ Some n
@@ -182,12 +197,10 @@ open_waits before now after q r place h turn others shown sources same going mos
       | inr begins ↦ begun_waits before now after q r n look.NotYet (h.turns (source_needed q)) turn sources same going most begins e
     ]
 
-    wants_here : WantsOf r (source_needed q) (hold_at before (source_needed q)) (hold_at after (source_needed q))
+    wants_here : Wanted q (source_needed q) (hold_at now (source_needed q)).pass.1 (hold_at after (source_needed q)).pass.1
     wants_here = elim waits [
-      | inl on ↦ wants_still q r (source_needed q) (hold_at before (source_needed q)) (hold_at now (source_needed q)) (hold_at after (source_needed q)) sources same on.marks on.same
-          (h.wants (source_needed q))
-      | inr begins ↦ wants_begun q r (hold_at before (source_needed q)) (hold_at now (source_needed q)) (hold_at after (source_needed q)) sources same place.range place.listed
-          (not_yet before now q h begins.fresh) begins (h.wants (source_needed q))
+      | inl on ↦ wanted_none q (source_needed q) _ _ on.marks
+      | inr begins ↦ need_called q (source_needed q) (needed q) _ _ place.listed refl certain begins.called
     ]
 
 -- a query that has ended, by the states from which it was fed, is served by what the pass saw
@@ -218,11 +231,11 @@ stop_served after r last states many each run feeds none cause = record {
 
 -- what a query wanted of every source after a look that ended the waiting
 pub all_wanted : (before now after : List Hold) (q r : Inquiry) (source : ℕ) → IsOnItsWay before now q → OthersStay (source_needed q) now after
-    → KeepsMarks (hold_at now (source_needed q)).pass.1 (hold_at after (source_needed q)).pass.1 → AsksMore q r
+    → Over (hold_at now (source_needed q)) (hold_at after (source_needed q)) → AsksMore q r
     → Wanted r source (hold_at before source).pass.1 (hold_at after source).pass.1
-all_wanted before now after q r source h others marks more =
+all_wanted before now after q r source h others over more =
     wanted_more q r source (hold_at before source).pass.1 (hold_at after source).pass.1 more
-    (wanted_kept q source (hold_at before source).pass.1 (hold_at now source).pass.1 (hold_at after source).pass.1 (all_marks now after (source_needed q) source others marks) (h.wants source).wanted)
+    (all_wants before now after q (source_needed q) source h others over.met (wanted_none q (source_needed q) _ _ over.marks))
 
 -- nothing is waited for, and this was noted
 abbrev rest_at : Tally → Waiting
@@ -233,12 +246,12 @@ pub core_stops : (before now after : List Hold) (q r : Inquiry) (states : List S
     → OthersStay (source_needed q) now after
     → Over (hold_at now (source_needed q)) (hold_at after (source_needed q))
     → (hold_at after (source_needed q)).shown ≡ (hold_at now (source_needed q)).shown
-    → r.sources.items ≡ q.sources.items → state_of r.machine ≡ state_of q.machine → r.refusal ≡ Some (refusal.Core fault)
+    → r.sources.items ≡ q.sources.items → method_of r.machine ≡ method_of q.machine → state_of r.machine ≡ state_of q.machine → r.refusal ≡ Some (refusal.Core fault)
     → length r.sources.items ≡ (state_of r.machine).log.lists
     → ((k d : ℕ) → k < length r.sources.items → IsSourceIn after (state_of r.machine).log.count (slice_index_or r.sources.items k d))
     → MakesItsRun r.machine → FeedsFrom after r states
     → IsCause (state_at (states_seen after) (source_needed q)) (state_of r.machine) (hold_at before (source_needed r)).pass.1.tally r.refusal → HasStopped before after r
-core_stops before now after q r states fault h others over shown sources same refused many each run feeds cause =
+core_stops before now after q r states fault h others over shown sources method same refused many each run feeds cause =
     let last = rest_at (hold_at before (source_needed r)).pass.1.tally in
     record {
       last = last;
@@ -248,7 +261,7 @@ core_stops before now after q r states fault h others over shown sources same re
         since = at_most_same (hold_at before (source_needed r)).pass.1.tally;
         shown = λ source. all_shown before now after (source_needed q) source others shown (h.shown source)
             ∙ ap (λ o. shown_to (with_waiting last r) o source (hold_at before source).shown) (sym refused);
-        wanted = λ source. all_wanted before now after q (with_waiting last r) source h others over.marks (same_asks q (with_waiting last r) sources same);
+        wanted = λ source. all_wanted before now after q (with_waiting last r) source h others over (same_asks q (with_waiting last r) sources method same);
       };
       why = subst (LookRefused r before after) (sym refused) tt;
       rests = all_rest before now after q h others over;
@@ -308,14 +321,15 @@ pub fault_stops : (before now after : List Hold) (q r : Inquiry) (states : List 
     → IsTurn (needed q) (hold_at now (source_needed q)) (hold_at after (source_needed q)) (look.Fault fault)
     → LookAnswers (needed q) (hold_at now (source_needed q)) (hold_at after (source_needed q)) (look.Fault fault)
     → (hold_at after (source_needed q)).shown ≡ shown_fault fault (hold_at now (source_needed q)).shown
-    → r.sources.items ≡ q.sources.items → state_of r.machine ≡ state_of q.machine → r.refusal ≡ Some (refusal.Look (list_needed (needed q)) fault)
+    → r.sources.items ≡ q.sources.items → method_of r.machine ≡ method_of q.machine → state_of r.machine ≡ state_of q.machine
+    → r.refusal ≡ Some (refusal.Look (list_needed (needed q)) fault)
     → is_done (needed q) ≡ false → length r.sources.items ≡ (state_of r.machine).log.lists
     → ((k d : ℕ) → k < length r.sources.items → IsSourceIn after (state_of r.machine).log.count (slice_index_or r.sources.items k d))
     → MakesItsRun r.machine → FeedsFrom after r states
     → Refuses (needed q) (state_seen (hold_at after (source_needed q)).pass.1) (state_seen (hold_at after (source_needed q)).pass.1)
     (hold_at now (source_needed q)).waiting (hold_at after (source_needed q)).waiting fault
     → HasStopped before after r
-fault_stops before now after q r states fault h others over turn said shown sources same refused going many each run feeds refuses =
+fault_stops before now after q r states fault h others over turn said shown sources method same refused going many each run feeds refuses =
     let s = source_needed q in
     let u = state_seen (hold_at after s).pass.1 in
     let known = (hold_at before s).pass.1.tally in
@@ -335,7 +349,7 @@ fault_stops before now after q r states fault h others over turn said shown sour
         since = subst (λ k. AtMost (hold_at before k).pass.1.tally last.noted) (sym there) (noted_since before now q u (hold_at after s).waiting fault h refuses);
         shown = λ source. fault_shown before now after q r source fault h others shown sources
             ∙ ap (λ o. shown_to (with_waiting last r) o source (hold_at before source).shown) (sym refused);
-        wanted = λ source. all_wanted before now after q (with_waiting last r) source h others over.marks (same_asks q (with_waiting last r) sources same);
+        wanted = λ source. all_wanted before now after q (with_waiting last r) source h others over (same_asks q (with_waiting last r) sources method same);
       };
       why = subst (LookRefused r before after) (sym refused)
           (subst (λ k. RefusedBy fault (needed r) (hold_at before k).pass.1 (hold_at after k).pass.1) (sym there)
@@ -360,7 +374,7 @@ done_stops before now r reading h unrefused done =
       uses = record {
         since = at_most_same (hold_at before (source_needed r)).pass.1.tally;
         shown = λ source. h.shown source ∙ ap (λ o. shown_to (with_waiting last r) o source (hold_at before source).shown) (sym unrefused);
-        wanted = λ source. wanted_more r (with_waiting last r) source (hold_at before source).pass.1 (hold_at now source).pass.1 (same_asks r (with_waiting last r) refl refl) (h.wants source).wanted;
+        wanted = λ source. wanted_more r (with_waiting last r) source (hold_at before source).pass.1 (hold_at now source).pass.1 (same_asks r (with_waiting last r) refl refl refl) (h.wants source);
       };
       why = subst (LookRefused r before now) (sym unrefused) tt;
       rests = record {

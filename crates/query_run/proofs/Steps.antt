@@ -1,6 +1,7 @@
 -- From one look to the next.
-use Rattle.std.proofs.Common.{◌≡◌, ◌<◌, ℕ, false, Some, None, List, length, slice_index_or, refl, sym, ap, subst, ◌∙◌, arith}
+use Rattle.std.proofs.Common.{◌≡◌, ◌<◌, ℕ, false, Option, Some, None, List, All, length, slice_index_or, refl, sym, ap, subst, ◌∙◌, arith}
 use Rattle.std.specs.List.{slice_set}
+use Rattle.std.specs.Option.{IfSome}
 use Rattle.std.proofs.lemmas.List.{get_or_read}
 use Rattle.ranked_list.specs.declared.need.Need.{Need}
 use Rattle.ranked_list.specs.declared.need.Need.TheVariants as need
@@ -20,14 +21,17 @@ use Rattle.source_pool.specs.Looks.{MayLookFor, shown_by, IsLook, IsWithin, Know
 use Rattle.query_core.specs.Methods.{run_with}
 use Rattle.query_core.specs.Machines.{method_of, state_of, MakesItsRun}
 use Rattle.query_run.specs.declared.inquiry.Inquiry.{Inquiry}
-use Rattle.query_run.specs.Inquiries.{needed, list_needed, source_needed, is_done, is_ended}
+use Rattle.query_run.specs.Inquiries.{logs_of, needed, list_needed, source_needed, is_done, is_ended}
 use Rattle.query_run.specs.Kept.{IsServed}
 use Rattle.query_run.specs.Causes.{IsCause}
 use Rattle.query_run.specs.Turns.{MayFeed, Answers}
 use Rattle.query_run.proofs.Serving.{state_set, listed, open_parts, may_feed}
 use Rattle.source_pool.specs.Seen.{state_seen}
+use Rattle.source_state.specs.Drawing.{told_by}
+use Rattle.query_core.specs.Driving.{IsFedFrom}
+use Rattle.query_run.specs.Advancing.{IsSourceIn}
 use Rattle.query_run.specs.Looking.{FeedsFrom, IsReading, LooksOnce}
-use Rattle.query_run.proofs.Looked.{IsDecidedBy, row_seen, grade_seen, SeesOn, name_on, feeds_later}
+use Rattle.query_run.proofs.Looked.{IsDecidedBy, row_seen, grade_seen, SeesOn, name_on, feeds_later, feeds_still}
 
 -- a query that reads, as one that is served by the states from which it was fed
 served_by : (holds : List Hold) (q : Inquiry) (states : List State) → IsReading holds q → FeedsFrom holds q states → q.refusal ≡ None → IsServed states q
@@ -201,3 +205,39 @@ looks_once before after q r answer looked answers run same sources waiting = rec
   run = run;
   answers = answers;
 }
+
+-- a query whose machine stays reads on
+reading_same : (holds : List Hold) (q r : Inquiry) → IsReading holds q → r.sources.items ≡ q.sources.items → r.machine ≡ q.machine → r.waiting ≡ q.waiting
+    → IsReading holds r
+reading_same holds q r h sources machine waiting =
+    let each : All (IsSourceIn holds (state_of q.machine).log.count) r.sources.items = subst (All (IsSourceIn holds (state_of q.machine).log.count)) (sym sources) h.each in
+    let fed : IsFedFrom (told_by (logs_of h.states r.sources.items)) (state_of q.machine)
+    = subst (λ xs. IsFedFrom (told_by (logs_of h.states xs)) (state_of q.machine)) (sym sources) h.feeds.fed in
+    record {
+      many = ap (length {A = ℕ}) sources ∙ h.many ∙ ap (λ m. (state_of m).log.lists) (sym machine);
+      each = subst (λ m. All (IsSourceIn holds (state_of m).log.count) r.sources.items) (sym machine) each;
+      run = subst MakesItsRun (sym machine) h.run;
+      rests = ap (λ (w : Waiting). w.need) waiting ∙ h.rests;
+      states = h.states;
+      feeds = record {
+        long = h.feeds.long;
+        sound = h.feeds.sound;
+        counted = λ source l. h.feeds.counted source l ∙ ap (λ m. (state_of m).log.count) (sym machine);
+        seen = h.feeds.seen;
+        fed = subst (λ m. IsFedFrom (told_by (logs_of h.states r.sources.items)) (state_of m)) (sym machine) fed;
+      };
+    }
+
+-- what isn't there yet, is of a source that is there, refuses nothing, and the query reads on
+pub missing_there : (missing : Option (ℕ × ℕ)) (source n : ℕ) (before after : List Hold) (answer : Look) (q r : Inquiry) → source < n → IsReading before q
+    → SeesOn (source_needed q) before after → r.sources.items ≡ q.sources.items → r.waiting ≡ q.waiting
+    → IfSome missing (λ (m : ℕ × ℕ). (m.0 ≡ source) × (answer ≡ look.NotYet)) → Answers q r answer
+    → IfSome missing (λ (m : ℕ × ℕ). (m.0 < n) × (r.refusal ≡ None) × IsReading after r)
+missing_there None source n before after answer q r l h on sources waiting is answers = tt
+missing_there (Some m) source n before after answer q r l h on sources waiting is answers =
+    let there = is.0 in
+    let stays = subst (Answers q r) is.1 answers in (
+      omega (arith, l, there),
+      stays.0,
+      reading_same after q r (still_reads (source_needed q) before after q h.states on h (feeds_still (source_needed q) before after q h.states on h.feeds)) sources stays.1 waiting,
+    )

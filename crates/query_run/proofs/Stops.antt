@@ -1,5 +1,5 @@
 -- All looks of a query, from the first to the end.
-use Rattle.std.proofs.Common.{◌≡◌, ◌≤◌, ◌<◌, ◌||◌, inl, inr, ℕ, zero, suc, true, false, Option, Some, None, Result, Ok, Err, OnErr, List, [], ◌∷◌, length, map, is_some, slice_index_or, All, Contains, refl, sym, ap, subst, ◌∙◌, arith, le_refl}
+use Rattle.std.proofs.Common.{◌≡◌, ◌≤◌, ◌<◌, ◌||◌, inl, inr, ℕ, zero, suc, true, false, Option, Some, None, Result, Ok, Err, OnErr, List, [], ◌∷◌, length, map, is_some, slice_index_or, All, Contains, refl, sym, ap, subst, ◌∙◌, arith}
 use Rattle.std.specs.List.{slice_set}
 use Rattle.std.proofs.lemmas.List.{length-map}
 use Rattle.std.proofs.lemmas.Bool.Decides.{eqb_tells}
@@ -23,7 +23,10 @@ use Rattle.source_pool.specs.Passes.{hold_at}
 use Rattle.source_pool.specs.Looks.{IsWithin, KnowsOn}
 use Rattle.query_core.specs.declared.ready.Ready.{Ready}
 use Rattle.query_core.specs.Driving.{Continues, IsFedFrom}
-use Rattle.query_core.specs.Machines.{state_of}
+use Rattle.machine_base.specs.Machine.{asked_of}
+use Rattle.query_core.specs.Methods.{run_with}
+use Rattle.query_core.specs.Machines.{method_of, state_of}
+use Rattle.query_run.specs.Asking.{IsCertainFor}
 use Rattle.query_core.proofs.Feeding.{continues_same, continues_on}
 use Rattle.query_core.proofs.ListCount.{lists_counted}
 use Rattle.query_run.specs.declared.ended.Ended.{Ended}
@@ -45,7 +48,8 @@ use Rattle.query_run.specs.Advancing.{WaitsForNothing, IsSourceIn, HasSourcesIn,
 use Rattle.query_run.specs.Ran.{Ran, RanSome}
 use Rattle.query_run.specs.Looking.{FeedsFrom, IsReading, LooksOnce, IsOnItsWay, with_waiting, HasStopped, Stands, HasLooked, wants_memory}
 use Rattle.query_run.proofs.SeenLaws.{state_is}
-use Rattle.query_run.proofs.AskingLaws.{row_meets, grade_meets}
+use Rattle.query_run.proofs.AskingLaws.{need_met}
+use Rattle.query_run.proofs.Wants.{marks_same, wanted_none}
 use Rattle.query_run.proofs.Looked.{turn_of_wait, turn_of_fault, row_seen, grade_seen, fault_seen, SeesOn, name_on, feeds_still}
 use Rattle.query_run.proofs.Steps.{placed_at, sees_on, fresh, there_too, decided_looks}
 use Rattle.query_run.proofs.Stands.{over_of, open_given, open_waits, core_stops, fault_stops, done_stops}
@@ -94,15 +98,15 @@ row_stands : (before now after : List Hold) (q r : Inquiry) (row : Row) (states 
 row_stands before now after q r row states None h reading going on l is seen feeds w e taken =
     open_given before now after q r (look.Row row) h
     (subst (Rattle.source_pool.specs.Looks.IsLook (needed q) (hold_at now (source_needed q)) (hold_at after (source_needed q))) is l.look) l.others
-    (over_of _ _ (subst (Rattle.source_pool.specs.Looks.Waits (needed q) (hold_at now (source_needed q)) (hold_at after (source_needed q))) is l.waits))
+    (over_of _ _ l.knows (subst (Rattle.source_pool.specs.Looks.Waits (needed q) (hold_at now (source_needed q)) (hold_at after (source_needed q))) is l.waits))
     (l.shown ∙ ap (λ a. Rattle.source_pool.specs.Looks.shown_by a (hold_at now (source_needed q)).shown) is)
-    (record { sources = l.sources; access = Rattle.machine_base.specs.Machine.row_access (needed q) row; accesses = taken.1.log.accesses; meets = row_meets (needed q) row going })
+    (record { sources = l.sources; method = l.method; access = Rattle.machine_base.specs.Machine.row_access (needed q) row; takes = taken.1 })
 row_stands before now after q r row states (Some (refusal.Core fault)) h reading going on l is seen feeds w e taken =
     let same : state_of r.machine ≡ state_of q.machine = stays fault taken in
     core_stops before now after q r states fault h l.others
-    (over_of _ _ (subst (Rattle.source_pool.specs.Looks.Waits (needed q) (hold_at now (source_needed q)) (hold_at after (source_needed q))) is l.waits))
+    (over_of _ _ l.knows (subst (Rattle.source_pool.specs.Looks.Waits (needed q) (hold_at now (source_needed q)) (hold_at after (source_needed q))) is l.waits))
     (l.shown ∙ ap (λ a. Rattle.source_pool.specs.Looks.shown_by a (hold_at now (source_needed q)).shown) is)
-    l.sources same e (many_on now q r reading l.sources (same_goes q r same)) (each_on now after q r on reading l.sources (same_goes q r same)) l.run feeds
+    l.sources l.method same e (many_on now q r reading l.sources (same_goes q r same)) (each_on now after q r on reading l.sources (same_goes q r same)) l.run feeds
     (elim w.cause [
       | inl none ↦ absurd (none_not_some (sym none ∙ e))
       | inr cause ↦
@@ -159,15 +163,21 @@ step_grade before now after q r grade h reading ending on l is =
       feeds = feeds_on after q r states f.feeds l.sources w.goes w.fed;
       stands = subst (Stands before after r) (sym answers.0)
           (open_given before now after q r (look.Grade grade) h looks l.others
-          (over_of _ _ (subst (Rattle.source_pool.specs.Looks.Waits (needed q) (hold_at now s) (hold_at after s)) is l.waits))
+          (over_of _ _ l.knows (subst (Rattle.source_pool.specs.Looks.Waits (needed q) (hold_at now s) (hold_at after s)) is l.waits))
           (l.shown ∙ ap (λ a. Rattle.source_pool.specs.Looks.shown_by a (hold_at now s).shown) is)
-          (record { sources = l.sources; access = Rattle.machine_base.specs.Machine.grade_access (needed q) grade; accesses = answers.1.log.accesses; meets = grade_meets (needed q) grade parts.1 }));
+          (record { sources = l.sources; method = l.method; access = Rattle.machine_base.specs.Machine.grade_access (needed q) grade; takes = answers.1 }));
     }
 
 -- the pass knows at least as much as at first
 tally_more : (sources : List ℕ) (before now after : List Hold) (q : Inquiry) → Advances sources before now → SeesOn (source_needed q) now after
     → AtMost (hold_at before (source_needed q)).pass.1.tally (hold_at after (source_needed q)).pass.1.tally
 tally_more sources before now after q h on = at_most_on (h.knows (source_needed q)).follows.tally on.follows.tally
+
+-- what a query needs is certain
+need_certain : (holds : List Hold) (q : Inquiry) → IsReading holds q → IsCertainFor q (needed q)
+need_certain holds q h = record {
+  met = λ D agrees. need_met (run_with (method_of q.machine) (asked_of (state_of q.machine)) D) (state_of q.machine).log.accesses (needed q) (h.run.on_run D agrees);
+}
 
 -- where it isn't there yet
 step_waits : (sources : List ℕ) (before now after : List Hold) (q r : Inquiry) → Advances sources before now → IsOnItsWay before now q → IsReading now q
@@ -187,7 +197,7 @@ step_waits sources before now after q r advances h reading ending on l is =
       stands = subst (Stands before after r) (sym answers.0)
           (open_waits before now after q r place h (turn_of_wait (needed q) (hold_at now s) (hold_at after s) (subst (Rattle.source_pool.specs.Looks.IsLook (needed q) (hold_at now s) (hold_at after s)) is l.look)) l.others
           (l.shown ∙ ap (λ a. Rattle.source_pool.specs.Looks.shown_by a (hold_at now s).shown) is)
-          l.sources same parts.1 (tally_more sources before now after q advances on)
+          l.sources l.method same parts.1 (tally_more sources before now after q advances on) l.knows.follows.met (need_certain now q reading)
           (subst (Rattle.source_pool.specs.Looks.Waits (needed q) (hold_at now s) (hold_at after s)) is l.waits));
     }
 
@@ -208,10 +218,10 @@ step_fault before now after q r fault h reading ending on l is =
       feeds = feeds;
       stands = subst (Stands before after r) (sym answers.0)
           (fault_stops before now after q r reading.states fault h l.others
-          (over_of _ _ (subst (Rattle.source_pool.specs.Looks.Waits (needed q) (hold_at now s) (hold_at after s)) is l.waits))
+          (over_of _ _ l.knows (subst (Rattle.source_pool.specs.Looks.Waits (needed q) (hold_at now s) (hold_at after s)) is l.waits))
           turn (subst (Rattle.source_pool.specs.Looks.Answers (needed q) (hold_at now s) (hold_at after s)) is l.said)
           (l.shown ∙ ap (λ a. Rattle.source_pool.specs.Looks.shown_by a (hold_at now s).shown) is)
-          l.sources same answers.0 parts.1 (many_on now q r reading l.sources goes) (each_on now after q r on reading l.sources goes) l.run feeds
+          l.sources l.method same answers.0 parts.1 (many_on now q r reading l.sources goes) (each_on now after q r on reading l.sources goes) l.run feeds
           (fault_seen (needed q) (hold_at now s) (hold_at after s) fault turn));
     }
 
@@ -237,7 +247,7 @@ knows_more before now after one other = record {
   within = λ w. other.within (one.within w);
 }
 
-knows_same : (hold : Hold) → KnowsMore hold hold
+pub knows_same : (hold : Hold) → KnowsMore hold hold
 knows_same hold = record {
   follows = record { seen = begins_same _; met = begins_same _; tally = at_most_same _ };
   name = refl;
@@ -249,7 +259,7 @@ knows_same hold = record {
 pub advances_same : (sources : List ℕ) (holds : List Hold) → Advances sources holds holds
 advances_same sources holds = record { size = refl; knows = λ source. knows_same (hold_at holds source); others = λ source absent. refl }
 
-hold_knows : (now after : Hold) → KnowsOn now.pass.1 after.pass.1 → (IsWithin now → IsWithin after) → KnowsMore now after
+pub hold_knows : (now after : Hold) → KnowsOn now.pass.1 after.pass.1 → (IsWithin now → IsWithin after) → KnowsMore now after
 hold_knows now after knows within = record { follows = knows.follows; name = knows.name; parts = knows.parts; writer = knows.writer; within = within }
 
 advances_on : (sources : List ℕ) (before now after : List Hold) (q r : Inquiry) → Contains sources (source_needed q) → length after ≡ length now
@@ -302,11 +312,9 @@ looked_none before q rests reading unrefused = record {
   stands = subst (Stands before before q) (sym unrefused) (record {
     waits = λ source n e. absurd (none_not_some (sym (rests.rests source) ∙ e));
     shown = λ source. refl;
-    wants = λ source. record {
-      wanted = record { rows = inl (le_refl _); grades = omega arith; mine = λ object c. inl c };
-      given = λ none. omega arith;
-    };
+    wants = λ source. wanted_none q source _ _ (marks_same (hold_at before source) (hold_at before source) refl);
     turns = λ source. begins_same _;
+    meets = λ source. begins_same _;
   });
 }
 

@@ -1,51 +1,55 @@
--- How much a query asks of its sources.
-use Rattle.std.specs.Prelude.{◌≡◌, ◌==◌, ◌&&◌, ◌≤◌, ◌<◌, ◌+◌, ◌⊎◌, ℕ, Bool, not, List, [], ◌∷◌, ◌++◌, length, count_by, Contains}
+-- How much a query asks of its sources: what is certain by what it read.
+use Rattle.std.specs.Prelude.{◌≡◌, ◌≢◌, ◌==◌, ◌&&◌, ◌≤◌, ◌<◌, ◌+◌, ◌⊎◌, ℕ, Bool, not, List, ◌++◌, All, AllPairs, length, count_by, Contains}
+use Rattle.ranked_list.specs.declared.row.Row.{Row}
 use Rattle.ranked_list.specs.declared.need.Need.{Need}
-use Rattle.ranked_list.specs.declared.need.Need.TheVariants.{Row, Grade, Done}
+use Rattle.ranked_list.specs.declared.need.Need.TheVariants as need
 use Rattle.turn_lock.specs.declared.known.Known.{Known}
 use Rattle.topk_theory.specs.declared.access.Access.{Access}
-use Rattle.topk_theory.specs.declared.access.Access.TheVariants.{Sorted, Random}
-use Rattle.topk_theory.specs.Transcript.{list_of, is_sorted, depth_of}
+use Rattle.topk_theory.specs.Transcript.{list_of, is_sorted}
+use Rattle.machine_base.specs.Machine.{asked_of}
+use Rattle.machine_base.specs.Certain.{IsCertain}
 use Rattle.source_state.specs.declared.entry.LogEntry.{LogEntry}
-use Rattle.query_core.specs.Machines.{state_of}
+use Rattle.query_core.specs.Methods.{run_with}
+use Rattle.query_core.specs.Machines.{method_of, state_of}
 use Rattle.query_run.specs.declared.inquiry.Inquiry.{Inquiry}
-use Rattle.query_run.specs.Inquiries.{needed, source_of}
+use Rattle.query_run.specs.Inquiries.{source_of}
 
--- a need as an access, of which it isn't known yet what it gives
-abbrev pub access_of : Need → List Access
-access_of (Row list depth) = Sorted list 0 0 ∷ []
-access_of (Grade list object) = Random list object 0 ∷ []
-access_of Done = []
+-- a need is certain for a query: on every table that agrees with what it read the run of its algorithm meets it
+abbrev pub IsCertainFor : Inquiry → Need → Type 0
+IsCertainFor q need = IsCertain (run_with (method_of q.machine)) (state_of q.machine) need
 
--- the accesses that a query asked its sources for: those that it made, and the one that it needs next
-abbrev pub accesses_asked : Inquiry → List Access
-accesses_asked q = (state_of q.machine).log.accesses ++ access_of (needed q)
+-- the run of a query on a table; an access asks this source for a grade; how many of the run do
+abbrev pub run_on : Inquiry → List (List Row) → List Access
+run_on q D = run_with (method_of q.machine) (asked_of (state_of q.machine)) D
 
--- an access asks this source for a grade; how many of a query's do
 abbrev pub is_grade_of : Inquiry → ℕ → Access → Bool
 is_grade_of q source access = not (is_sorted access) && (source_of q (list_of access) == source)
 
-abbrev pub grades_asked : Inquiry → ℕ → ℕ
-grades_asked q source = count_by (is_grade_of q source) (accesses_asked q)
+abbrev pub grades_on : Inquiry → ℕ → List (List Row) → ℕ
+grades_on q source D = count_by (is_grade_of q source) (run_on q D)
 
--- of a list that this source has, the query asked for so many rows at least
+-- so many rows at least of a list that this source has are certain
 pub record IsAskedFor (q : Inquiry) (source depth : ℕ) : Type 0 where
   pub list : ℕ
   pub listed : list < length q.sources.items
   pub of : source_of q list ≡ source
-  pub deep : depth ≤ depth_of list (accesses_asked q)
+  pub deep : IsCertainFor q (need.Row list depth)
 
--- of a list that this source has, the query asked for the grade of this object
+-- the grade of this object in a list that this source has is certain
 pub record AsksGradeOf (q : Inquiry) (source object : ℕ) : Type 0 where
   pub list : ℕ
   pub listed : list < length q.sources.items
   pub of : source_of q list ≡ source
-  pub grade : ℕ
-  pub asks : Contains (accesses_asked q) (Random list object grade)
+  pub asks : IsCertainFor q (need.Grade list object)
 
--- what a query wanted of a source through a pass: it raised the mark no further than it asked for rows of the source, if at all, added
--- no more asks than it asked the source for grades, and each of them for an object whose grade it asked for
+-- what a query wanted of a source through a pass: it raised the mark no further than is certain, if at all; and it added no more asks than there are
+-- these objects, each once, none of which the pass had met and all of which it has now, and the grade of each of them is certain
 pub record Wanted (q : Inquiry) (source : ℕ) (before after : Known LogEntry) : Type 0 where
   pub rows : (after.high ≤ before.high) ⊎ IsAskedFor q source after.high
-  pub grades : after.asked ≤ before.asked + grades_asked q source
-  pub mine : (object : ℕ) → Contains after.mine object → Contains before.mine object ⊎ AsksGradeOf q source object
+  pub news : List ℕ
+  pub mine : after.mine ≡ before.mine ++ news
+  pub grades : after.asked ≤ before.asked + length news
+  pub apart : AllPairs (λ (one other : ℕ). one ≢ other) news
+  pub unmet : All (λ object. ¬ Contains before.met object) news
+  pub met : All (Contains after.met) news
+  pub each : All (AsksGradeOf q source) news

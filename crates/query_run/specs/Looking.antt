@@ -1,5 +1,5 @@
 -- A query on its way through a pass: what it keeps from look to look, what a look does, and what all of them did.
-use Rattle.std.specs.Prelude.{◌≡◌, ◌≤◌, ◌<◌, ◌+◌, ℕ, Bool, true, false, Option, Some, None, List, All, length, count_by}
+use Rattle.std.specs.Prelude.{◌≡◌, ◌<◌, ◌⊎◌, ℕ, Bool, true, false, Option, Some, None, List, All, Contains, length}
 use Rattle.ranked_list.specs.declared.need.Need.{Need}
 use Rattle.turn_lock.specs.Facts.{IsFrontOf, AtMost}
 use Rattle.source_state.specs.declared.look.Look.{Look}
@@ -21,8 +21,8 @@ use Rattle.query_run.specs.Inquiries.{told_to, needed, source_needed, is_done}
 use Rattle.query_run.specs.Kept.{IsServed}
 use Rattle.query_run.specs.Turns.{Answers}
 use Rattle.query_run.specs.Seen.{states_seen}
-use Rattle.query_run.specs.Advancing.{WaitsForNothing, IsSourceIn, Advances}
-use Rattle.query_run.specs.Asking.{is_grade_of, Wanted}
+use Rattle.query_run.specs.Advancing.{WaitsForNothing, IsSourceIn, KnowsMore, Advances}
+use Rattle.query_run.specs.Asking.{Wanted}
 use Rattle.query_run.specs.Failing.{HasCalledFor, LookRefused}
 use Rattle.query_run.specs.Ran.{Uses}
 
@@ -59,14 +59,31 @@ pub record LooksOnce (before after : List Hold) (q r : Inquiry) : Type 0 where
   pub run : MakesItsRun r.machine
   pub answers : Answers q r answer
 
--- how many grades a query was given of a source
-abbrev pub grades_given : Inquiry → ℕ → ℕ
-grades_given q source = count_by (is_grade_of q source) (state_of q.machine).log.accesses
-
--- what a query on its way wanted of a source: where nothing is waited for there, all grades that it was asked for were given
-pub record WantsOf (q : Inquiry) (source : ℕ) (before now : Hold) : Type 0 where
+-- what looks ahead leave of a source's pass: it waits for what it waited for and was shown what it was shown, it knows at least as much, its own turns
+-- go on, and of the source it wanted what is certain for the query
+pub record HasForeseen (q : Inquiry) (source : ℕ) (before now : Hold) : Type 0 where
+  pub waits : now.waiting ≡ before.waiting
+  pub shown : now.shown ≡ before.shown
+  pub knows : KnowsMore before now
+  pub turns : IsFrontOf before.pass.1.gave now.pass.1.gave
   pub wanted : Wanted q source before.pass.1 now.pass.1
-  pub given : now.waiting.need ≡ None → now.pass.1.asked ≤ before.pass.1.asked + grades_given q source
+
+-- looks ahead of a query at its sources, by which it stays as it is
+pub record LooksAhead (before after : List Hold) (q : Inquiry) : Type 0 where
+  pub size : length after ≡ length before
+  pub each : (source : ℕ) → HasForeseen q source (hold_at before source) (hold_at after source)
+  pub others : (source : ℕ) → ¬ Contains q.sources.items source → hold_at after source ≡ hold_at before source
+
+-- a look, and where it is waited for what is needed, looks ahead
+pub record WaitsAhead (before after : List Hold) (q r : Inquiry) : Type 0 where
+  pub middle : List Hold
+  pub look : LooksOnce before middle q r
+  pub going : r.refusal ≡ None
+  pub size : length middle ≡ length before
+  pub ahead : LooksAhead middle after r
+
+abbrev pub LooksAndAhead : List Hold → List Hold → Inquiry → Inquiry → Type 0
+LooksAndAhead before after q r = LooksOnce before after q r ⊎ WaitsAhead before after q r
 
 -- what is waited for at a source is what the query needs; the query called for it, and the tally was noted then, which is no less than what
 -- the pass knew at first
@@ -82,8 +99,9 @@ pub record IsOnItsWay (before now : List Hold) (q : Inquiry) : Type 0 where
   pub waits : (source : ℕ) (need : Need) → (hold_at now source).waiting.need ≡ Some need
       → WaitsAt q source need (hold_at before source) (hold_at now source)
   pub shown : (source : ℕ) → (hold_at now source).shown ≡ (hold_at before source).shown
-  pub wants : (source : ℕ) → WantsOf q source (hold_at before source) (hold_at now source)
+  pub wants : (source : ℕ) → Wanted q source (hold_at before source).pass.1 (hold_at now source).pass.1
   pub turns : (source : ℕ) → IsFrontOf (hold_at before source).pass.1.gave (hold_at now source).pass.1.gave
+  pub meets : (source : ℕ) → IsFrontOf (hold_at before source).pass.1.met (hold_at now source).pass.1.met
 
 -- the query with what it waited for last
 abbrev pub with_waiting : Waiting → Inquiry → Inquiry

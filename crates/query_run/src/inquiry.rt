@@ -38,7 +38,7 @@ pub fn list_needed(need: Need) -> u8
 }
 
 /// Whether nothing is needed.
-fn is_done(need: Need) -> bool
+pub(crate) fn is_done(need: Need) -> bool
     ensures { result ≡ is_done need }
 {
     match need {

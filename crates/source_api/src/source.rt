@@ -111,5 +111,10 @@ pub trait Source: Send + Drop {
     fn version(&self) -> u64
         ensures { result ≡ at_hand self.now };
 
+    /// Whether a call takes so long that calls of other sources had better go on beside it, as over a network. No clause depends on it.
+    fn is_far(&self) -> bool {
+        false
+    }
+
     ghost distinct: { (source : Self) → IfSome (list source) HasEachOnce };
 }

@@ -9,3 +9,5 @@ mod Walks
 mod CloseLaws
 mod SeenLaws
 mod HoldLaws
+pub mod AheadLaws
+mod PassLaws

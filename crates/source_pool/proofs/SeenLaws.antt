@@ -25,7 +25,7 @@ sound_first source count small = sound_opened source count small
 abbrev named : ℕ × ℕ → State → State
 named name s = record { list = name.0; count = name.1; want = 0; log = s.log; asks = s.asks; tally = s.tally; last_fail = None; paused = false }
 
-sound_named : (s : State) → IsSound s → IsSound (named (s.list, s.count) s)
+pub sound_named : (s : State) → IsSound s → IsSound (named (s.list, s.count) s)
 sound_named s h = record { log = h.log; distinct = h.distinct; fits = h.fits; small = h.small; want = omega arith; tally = h.tally }
 
 -- after a look

@@ -1,7 +1,8 @@
 -- What a turn of a look makes of the pass.
-use Rattle.std.proofs.Common.{◌≡◌, ◌≢◌, ◌≤◌, ◌<◌, ◌+◌, ◌⊎◌, inl, inr, ℕ, true, false, cond, max, Option, Some, None, List, [], ◌∷◌, ◌++◌, length, drop, nat_lt, Contains, refl, sym, ap, subst, ◌∙◌, arith, le_refl, le_trans, append-nil}
+use Rattle.std.proofs.Common.{◌≡◌, ◌≢◌, ◌≤◌, ◌<◌, ◌+◌, ◌-◌, ◌⊎◌, inl, inr, ℕ, true, false, cond, max, Option, Some, None, List, [], ◌∷◌, ◌++◌, length, drop, nat_lt, Contains, refl, sym, ap, subst, ◌∙◌, arith, le_refl, le_trans, append-nil}
 use Rattle.std.proofs.lemmas.Bool.{cases_Bool, le-ltb, ltb-true}
 use Rattle.std.proofs.lemmas.List.{length_push}
+use Rattle.std.proofs.lemmas.List.Elements.{Contains-append_left}
 use Rattle.std.proofs.Math.Seq.{drop-length, drop-append_seam}
 use Rattle.std.specs.Option.{IfSome}
 use Rattle.atomic_table.specs.Seated.{TableId}
@@ -11,7 +12,7 @@ use Rattle.ranked_list.specs.declared.need.Need.TheVariants as need
 use Rattle.turn_lock.specs.declared.facts.Tally.{Tally}
 use Rattle.turn_lock.specs.declared.facts.Facts.{Facts}
 use Rattle.turn_lock.specs.declared.known.Known.{Known}
-use Rattle.turn_lock.specs.Facts.{AtMost, FactsGrow, AreFactsKept}
+use Rattle.turn_lock.specs.Facts.{IsFrontOf, AtMost, FactsGrow, AreFactsKept}
 use Rattle.turn_lock.specs.Known.{KnowsOf, raised, holding, after_turn}
 use Rattle.turn_lock.proofs.Growth.{begins_same, at_most_same, begins_on, at_most_on}
 use Rattle.source_state.specs.declared.ask.Ask.{Ask}
@@ -28,9 +29,10 @@ use Rattle.source_state.specs.Events.{one_asked, one_more, counted, count_of}
 use Rattle.source_state.specs.Looking.{is_same, waits_for, told, decided, is_full, called, Looks, MayLook}
 use Rattle.source_state.specs.Looking as looking
 use Rattle.source_state.proofs.Lists.{eqb_same, none_not_some}
+use Rattle.source_state.proofs.AskLaws.{ask_missing}
 use Rattle.source_state.proofs.Counting.{told_more}
 use Rattle.source_pool.specs.declared.hold.Hold.{Hold}
-use Rattle.source_pool.specs.Looks.{said_in, MayLookFor, HasNoRoom, told_of, Answers, KeepsMarks, HasCalled, GoesOn, BeginsToWait, Ends, Waits, shown_by, KnowsOn, rested, IsGlance, IsTurn, IsWithin}
+use Rattle.source_pool.specs.Looks.{said_in, MayLookFor, HasNoRoom, told_of, Answers, KeepsMarks, KeepsAsks, AddsAsk, HasCalled, GoesOn, BeginsToWait, Ends, Waits, shown_by, KnowsOn, rested, IsGlance, IsTurn, IsWithin}
 use Rattle.source_pool.specs.Holds.{SourcePass}
 use Rattle.source_pool.specs.Seen.{state_seen}
 use Rattle.limits.specs.declared.TheConstants.{MAX_OBJECTS}
@@ -165,7 +167,7 @@ awake (need.Row list depth) s known may = due_awake (first_pending (called s (ne
 awake (need.Grade list object) s known may = due_awake (first_pending (called s (need.Grade list object)))
 awake need.Done s known may = absurd may
 
--- the want of a row raises the mark to its depth at most, and the ask of an object adds one at most
+-- the want of a row raises the mark to its depth at most
 raised_to : (want depth high : ℕ) → raised want (max want depth) high ≤ max high depth
 raised_to want depth high = elim (cases_Bool (nat_lt want (max want depth))) [
   | inl t ↦ let below : want < max want depth = ltb-true want (max want depth) t in
@@ -173,30 +175,39 @@ raised_to want depth high = elim (cases_Bool (nat_lt want (max want depth))) [
   | inr f ↦ subst (λ b. cond b (max want depth) high ≤ max high depth) (sym f) (omega arith)
 ]
 
-one_added : (found : Option Ask) (object : ℕ) (asks : List ℕ) → length (one_asked found object asks) ≤ length asks + 1
-one_added None object asks = let e = length_push asks object in omega (arith, e)
-one_added (Some ask) object asks = omega arith
-
 -- the ask of an object that wasn't asked is the one that is added
-one_new : (found : Option Ask) (object : ℕ) (asks mine : List ℕ)
-    → (mine ++ drop (length asks) (one_asked found object asks) ≡ mine) ⊎ (mine ++ drop (length asks) (one_asked found object asks) ≡ mine ++ object ∷ [])
-one_new None object asks mine = inr (ap (λ (l : List ℕ). mine ++ l) (drop-append_seam asks (object ∷ [])))
-one_new (Some ask) object asks mine = inl (none_new mine asks asks refl)
+asks_added : (found : Option Ask) (object : ℕ) (asks : List ℕ) (k after : Known LogEntry) → after.asked ≡ k.asked + (length (one_asked found object asks) - length asks)
+    → after.mine ≡ k.mine ++ drop (length asks) (one_asked found object asks) → (found ≡ None → ¬ Contains k.met object)
+    → KeepsAsks k after ⊎ AddsAsk object k after
+asks_added None object asks k after asked mine fresh = inr (record {
+  asked = let e = length_push asks object in omega (arith, e, asked);
+  mine = mine ∙ ap (λ (l : List ℕ). k.mine ++ l) (drop-append_seam asks (object ∷ []));
+  unmet = fresh refl;
+})
+asks_added (Some ask) object asks k after asked mine fresh = inl (record {
+  asked = omega (arith, asked);
+  mine = mine ∙ none_new k.mine asks asks refl;
+})
 
-has_called : (n : Need) (s : State) (k : Known LogEntry) → MayLookFor k n → HasCalled n k (after_turn (facts_of s) (facts_of (called s n)) k)
-has_called (need.Row list depth) s k may = record {
+-- what isn't asked wasn't met
+unmet : (s : State) (met : List ℕ) (object : ℕ) → IsFrontOf met s.asks → ask_of (asks_of s) object ≡ None → ¬ Contains met object
+unmet s met object front none c =
+    ask_missing s.log s.asks object none (subst (λ asks. Contains asks object) (sym front.goes_on) (Contains-append_left met front.rest object c))
+
+pub has_called : (n : Need) (s : State) (k : Known LogEntry) → MayLookFor k n → IsFrontOf k.met s.asks
+    → HasCalled n k (after_turn (facts_of s) (facts_of (called s n)) k)
+has_called (need.Row list depth) s k may front = record {
   wanted = omega arith;
   high = raised_to s.want depth k.high;
   asked = omega arith;
   mine = none_new k.mine s.asks s.asks refl;
 }
-has_called (need.Grade list object) s k may = record {
+has_called (need.Grade list object) s k may front = record {
   asks = asked_member s object;
   high = not_raised s.want k.high;
-  asked = let few = one_added (ask_of (asks_of s) object) object s.asks in omega (arith, few);
-  mine = one_new (ask_of (asks_of s) object) object s.asks k.mine;
+  added = asks_added (ask_of (asks_of s) object) object s.asks k (after_turn (facts_of s) (facts_of (called s (need.Grade list object))) k) refl refl (unmet s k.met object front);
 }
-has_called need.Done s k may = absurd may
+has_called need.Done s k may front = absurd may
 
 begins_to_wait : {n : Need} {before after : Hold} {answer : Look} → (t : Turned n before after answer)
     → looking.BeginsWaiting n t.turn.found t.turn.left before.waiting after.waiting → BeginsToWait n before after
@@ -207,7 +218,7 @@ begins_to_wait {n = n} {before = before} {after = after} t b =
       fresh = b.fresh;
       notes = b.notes ∙ ap (λ tally. noting n tally) (sym (ap (λ (k : Known LogEntry). k.tally) t.turn.gave));
       awake = λ e. awake n t.turn.found before.pass.1 t.may (sym (ap (λ (k : Known LogEntry). k.sight.due) given) ∙ e);
-      called = subst (HasCalled n before.pass.1) (sym given) (has_called n t.turn.found before.pass.1 t.may);
+      called = subst (HasCalled n before.pass.1) (sym given) (has_called n t.turn.found before.pass.1 t.may t.turn.agrees.past.met);
     }
   where
     noting : Need → Tally → Waiting
@@ -299,7 +310,7 @@ abbrev Given : TableId → Facts LogEntry → SourcePass → SourcePass → Type
 Given table given after mid = IfSome mid.1.held (λ f. ◌≡◌ {A = SourcePass} after (table, after_turn f given mid.1))
 
 -- the pass after the give
-given_is : (table : TableId) (known : Known LogEntry) (taken given : Facts LogEntry) (mid after : SourcePass)
+pub given_is : (table : TableId) (known : Known LogEntry) (taken given : Facts LogEntry) (mid after : SourcePass)
     → ◌≡◌ {A = SourcePass} mid (table, holding taken known)
     → IfSome mid.1.held (λ f. ◌≡◌ {A = SourcePass} after (table, after_turn f given mid.1)) → ◌≡◌ {A = SourcePass} after (table, after_turn taken given known)
 given_is table known taken given mid after e h = subst (Given table given after) e h

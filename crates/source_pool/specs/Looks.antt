@@ -91,18 +91,26 @@ pub record KeepsMarks (before after : Known LogEntry) : Type 0 where
   pub asked : after.asked ≡ before.asked
   pub mine : after.mine ≡ before.mine
 
--- the state has the want of a row or the ask of an object; the pass may have raised the mark so far, or added this one ask
+-- the state has the want of a row or the ask of an object; the pass may have raised the mark so far, or added this one ask, which it hadn't met
 pub record HasWant (depth : ℕ) (before after : Known LogEntry) : Type 0 where
   pub wanted : depth ≤ after.sight.mark
   pub high : after.high ≤ max before.high depth
   pub asked : after.asked ≡ before.asked
   pub mine : after.mine ≡ before.mine
 
+pub record KeepsAsks (before after : Known LogEntry) : Type 0 where
+  pub asked : after.asked ≡ before.asked
+  pub mine : after.mine ≡ before.mine
+
+pub record AddsAsk (object : ℕ) (before after : Known LogEntry) : Type 0 where
+  pub asked : after.asked ≤ before.asked + 1
+  pub mine : after.mine ≡ before.mine ++ object ∷ []
+  pub unmet : ¬ Contains before.met object
+
 pub record HasAsk (object : ℕ) (before after : Known LogEntry) : Type 0 where
   pub asks : Contains after.met object
   pub high : after.high ≡ before.high
-  pub asked : after.asked ≤ before.asked + 1
-  pub mine : (after.mine ≡ before.mine) ⊎ (after.mine ≡ before.mine ++ object ∷ [])
+  pub added : KeepsAsks before after ⊎ AddsAsk object before after
 
 abbrev pub HasCalled : Need → Known LogEntry → Known LogEntry → Type 0
 HasCalled (need.Row list depth) before after = HasWant depth before after
@@ -186,3 +194,17 @@ IsLook need before after answer = IsGlance need before after answer ⊎ IsTurn n
 pub record IsWithin (hold : Hold) : Type 0 where
   pub shown : AtMost hold.shown hold.pass.1.tally
   pub noted : hold.waiting.need ≢ None → AtMost hold.shown hold.waiting.noted
+
+-- a turn that asks for a need to come, in which the pass waits for nothing: the state may have got the want or the ask of this need, the pass knows
+-- at least as much, and what it waits for, was shown and remembers stays
+pub record AsksAhead (need : Need) (before after : Hold) : Type 0 where
+  pub found : State
+  pub left : State
+  pub agrees : KnowsOf (facts_of found) before.pass.1
+  pub gave : after.pass.1 ≡ after_turn (facts_of found) (facts_of left) before.pass.1
+  pub sound : IsSound left
+  pub knows : KnowsOn before.pass.1 after.pass.1
+  pub called : KeepsMarks before.pass.1 after.pass.1 ⊎ HasCalled need before.pass.1 after.pass.1
+  pub waits : after.waiting ≡ before.waiting
+  pub shown : after.shown ≡ before.shown
+  pub remembers : after.remembered ≡ before.remembered

@@ -19,10 +19,7 @@ fn close_one(lock: TurnLock<SourceState>, hold: Hold, feeder: Feeder) -> SourceS
     ensures { IsClosed feeder.pass.1 hold.pass.1 result }
 {
     let Hold { pass, .. } = hold;
-    let Feeder {
-        pass: mut writer,
-        ..
-    } = feeder;
+    let mut writer = feeder.into_pass();
     lock.join(&mut writer, pass);
     let state = lock.close(writer);
     // Serves the prover alone: `count` promises that the state is sound.

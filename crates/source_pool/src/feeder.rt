@@ -12,10 +12,19 @@ use std::sync::Wait;
 use turn_lock::{Pass, TurnLock};
 
 /// The right to write the state of one source. To a contract it is the source's number and the writer's pass of its lock.
-#[derive(Drop)]
 pub struct Feeder {
     pub(crate) source: u32,
     pub(crate) pass: Pass<SourceState>,
+}
+
+/// Written here, and not derived, so that a crate that lets a feeder go calls this.
+impl Drop for Feeder {
+    fn drop(self) {
+        let Feeder {
+            source: _,
+            pass: _pass,
+        } = self;
+    }
 }
 
 impl Model for Feeder {
@@ -35,6 +44,14 @@ impl Feeder {
         ensures { result ≡ self.now.source }
     {
         self.source
+    }
+
+    /// The writer's pass.
+    pub(crate) fn into_pass(self) -> Pass<SourceState>
+        ensures { result ≡ self.pass }
+    {
+        let Feeder { source: _, pass } = self;
+        pass
     }
 
     /// Waits for its turn at the lock of its source, and takes the state. The state's log and its tally are those that the feeder knows.

@@ -2,14 +2,14 @@
 
 ghost use Rattle.std.specs.Prelude.{◌≡◌, ◌<◌, None};
 ghost use Rattle.source_pool.specs.Holds.{IsFree};
-ghost use Rattle.source_pool.specs.Looks.{MayLookFor, Answers, Waits, shown_fault, shown_by, KnowsOn, IsTurn, IsLook, IsWithin};
+ghost use Rattle.source_pool.specs.Looks.{MayLookFor, Answers, Waits, shown_fault, shown_by, KnowsOn, IsTurn, IsLook, AsksAhead, IsWithin};
 ghost use Rattle.source_state.specs.Events.{counted};
 ghost use Rattle.source_state.specs.State.{IsSound};
 ghost use Rattle.source_pool.specs.Seen.{state_seen};
 ghost use Rattle.source_pool.specs.Windows.{row_held};
 ghost use Rattle.source_pool.specs.Remembering.{Remembers};
 
-use super::hold::Hold;
+use super::hold::{Hold, NO_WAITING};
 use ranked_list::Need;
 use source_api::FailKind;
 use source_state::{Look, LookFault, SourceState, Tally, look_at};
@@ -80,6 +80,27 @@ fn look_in_turn(rt: &impl Wait, lock: &TurnLock<SourceState>, hold: &mut Hold, n
     lock.give(&mut hold.pass, state);
     hold.shown = shown_by(answer, hold.shown);
     answer
+}
+
+/// Asks for a need to come, in one turn: where nothing is there yet, the state has the want or the ask of it then. The pass waits for nothing.
+/// Whether nothing is there yet.
+pub fn look_ahead(rt: &impl Wait, lock: &TurnLock<SourceState>, hold: &mut Hold, need: Need) -> bool
+    requires own { IsFree lock.now hold.old.pass }
+    requires need { MayLookFor hold.old.pass.1 need }
+    requires remembers { Remembers hold.old.pass.1.seen hold.old.remembered }
+    ensures own { IsFree lock.now hold.new.pass }
+    ensures sound { IsSound (state_seen hold.new.pass.1) }
+    ensures remembers { Remembers hold.new.pass.1.seen hold.new.remembered }
+    ensures asks { AsksAhead need hold.old hold.new }
+    ensures within { IsWithin hold.old → IsWithin hold.new }
+{
+    let mut state = lock.take(rt, &mut hold.pass);
+    // Serves the prover alone: `count` promises that the state is sound.
+    let _ = state.count();
+    let mut waiting = NO_WAITING;
+    let answer = look_at(&mut state, &mut waiting, need);
+    lock.give(&mut hold.pass, state);
+    answer == Look::NotYet
 }
 
 /// Looks for a need: what is remembered answers it, else one turn is taken.

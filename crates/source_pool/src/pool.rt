@@ -5,7 +5,7 @@ ghost use Rattle.turn_lock.specs.Facts.{FactsGrow};
 ghost use Rattle.turn_lock.specs.Known.{KnowsOf, HasAll};
 ghost use Rattle.source_state.specs.State.{facts_of};
 ghost use Rattle.source_pool.specs.Passes.{hold_at, IsPassOf, OthersStay, IsFeederOf, IsIdleOf, AreFeedersOf, in_turn, turned};
-ghost use Rattle.source_pool.specs.Looks.{MayLookFor, Answers, Waits, shown_by, said_in, KnowsOn, IsLook, IsWithin};
+ghost use Rattle.source_pool.specs.Looks.{MayLookFor, Answers, Waits, shown_by, said_in, KnowsOn, IsLook, AsksAhead, IsWithin};
 ghost use Rattle.source_pool.specs.Windows.{row_held};
 ghost use Rattle.source_state.specs.declared.look.Look.TheVariants as look;
 ghost use Rattle.source_pool.specs.Sharing.{IsOpened, MaySplit, IsSplit, IsJoined};
@@ -13,7 +13,7 @@ ghost use Rattle.source_pool.specs.Closed.{HaveAll, AreClosed};
 
 use super::closing::close_all;
 use super::feeder::Feeder;
-use super::look::look_once;
+use super::look::{look_ahead, look_once};
 use super::opening::open_all;
 use super::pool_pass::PoolPass;
 use super::sharing::{join_all, make_all, split_all};
@@ -27,11 +27,20 @@ use std::sync::Wait;
 use turn_lock::TurnLock;
 
 /// The sources that queries share, each behind a lock of its own. To a contract it is the list of the locks.
-#[derive(Drop)]
 pub struct Pool {
     locks: Vec<TurnLock<SourceState>>,
     /// Room for the states when the pool is closed.
     room: Vec<SourceState>,
+}
+
+/// Written here, and not derived, so that a crate that lets a pool go calls this.
+impl Drop for Pool {
+    fn drop(self) {
+        let Pool {
+            locks: _locks,
+            room: _room,
+        } = self;
+    }
 }
 
 impl Model for Pool {
@@ -116,6 +125,28 @@ impl Pool {
         pass.holds[source as usize].remembered.rows.row(need)
     }
 
+    /// Asks a source for what a query comes to need of it, in one turn of the source's lock, for which it may wait. Where nothing is there yet the
+    /// source has the want of the row or the ask of the grade then. The pass waits for nothing, and no fail is told. Whether nothing is there yet:
+    /// who serves the source may be woken then.
+    ///
+    /// *Cost*: one turn of the source's lock, and one `look_at` in it; no memory.
+    pub fn foresee(&self, rt: &impl Wait, pass: &mut PoolPass, source: u32, need: Need) -> bool
+        requires own { IsPassOf self.now pass.old }
+        requires source { source < length self.now }
+        requires need { MayLookFor (hold_at pass.old source).pass.1 need }
+        ensures own { IsPassOf self.now pass.new }
+        ensures others { OthersStay source pass.old pass.new }
+        ensures asks { AsksAhead need (hold_at pass.old source) (hold_at pass.new source) }
+        ensures within { IsWithin (hold_at pass.old source) → IsWithin (hold_at pass.new source) }
+    {
+        let lock = &self.locks[source as usize];
+        let open = look_ahead(rt, lock, &mut pass.holds[source as usize], need);
+        if open {
+            lock.wanted().ring();
+        }
+        open
+    }
+
     /// How often the feeder of a source told something. Who is to sleep after a look reads it before that look.
     pub fn told(&self, source: u32) -> u64
         requires source { source < length self.now }
@@ -192,7 +223,7 @@ impl Pool {
         ensures own { IsPassOf self.now pass.new }
         ensures joined { IsJoined self.now pass.old other pass.new }
     {
-        let PoolPass { mut holds } = other;
+        let mut holds = other.into_holds();
         join_all(&self.locks, &mut pass.holds, &mut holds);
     }
 
@@ -229,7 +260,6 @@ impl Pool {
         ensures { AreClosed self pass feeders result }
     {
         let Pool { locks, room } = self;
-        let PoolPass { holds } = pass;
-        States::from_vec(close_all(locks, holds, feeders.into_vec(), room))
+        States::from_vec(close_all(locks, pass.into_holds(), feeders.into_vec(), room))
     }
 }

@@ -1,12 +1,20 @@
 //! A pass of a pool.
 
+ghost use Rattle.std.specs.Prelude.{◌≡◌};
+
 use super::hold::Hold;
 use std::marker::Model;
 
 /// A right to look at the sources of a pool. To a contract it is what it holds of each source, by the sources' numbers.
-#[derive(Drop)]
 pub struct PoolPass {
     pub(crate) holds: Vec<Hold>,
+}
+
+/// Written here, and not derived, so that a crate that lets a pass go calls this.
+impl Drop for PoolPass {
+    fn drop(self) {
+        let PoolPass { holds: _holds } = self;
+    }
 }
 
 impl Model for PoolPass {
@@ -16,4 +24,14 @@ impl Model for PoolPass {
     ghost Value = { List Hold };
 
     ghost view = { λ a. a.holds.items };
+}
+
+impl PoolPass {
+    /// What it holds of each source.
+    pub(crate) fn into_holds(self) -> Vec<Hold>
+        ensures { result.items ≡ self }
+    {
+        let PoolPass { holds } = self;
+        holds
+    }
 }

@@ -20,9 +20,15 @@ use turn_lock::{Logged, Tally};
 
 /// The state of one source. Only `open` takes memory. Contracts see it as `State`. It is moved by a
 /// pointer, since a lock hands it over at each turn.
-#[derive(Drop)]
 pub struct SourceState {
     kept: Box<Kept>,
+}
+
+/// Written here, and not derived, so that a crate that lets a state go calls this.
+impl Drop for SourceState {
+    fn drop(self) {
+        let SourceState { kept: _kept } = self;
+    }
 }
 
 /// What the state of a source holds.
