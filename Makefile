@@ -60,6 +60,7 @@ bench: topk
 	cd crates/bench_http && rt run < stdin
 	bench/http.py
 	bench/nodes.py
+	bench/delayed.py
 	bench/bridges.py
 	bench/serve.py
 

@@ -61,36 +61,50 @@ def again(ports, text):
     return time.monotonic() - begun, len(lines)
 
 
-def run(program, catalog, line, page):
+def run(program, catalog, line, page, *words):
     begun = time.monotonic()
-    said = subprocess.run([program, "run", catalog, "--page", str(page), "--workers", "1"], input=line, capture_output=True, text=True)
+    said = subprocess.run([program, "run", catalog, "--page", str(page), "--workers", "1", *words], input=line, capture_output=True, text=True)
     assert said.returncode == 0, (said.returncode, said.stdout[:200])
     return time.monotonic() - begun, said.stdout
 
 
-def main():
-    program = str(pathlib.Path(sys.argv[1] if len(sys.argv) > 1 else "topk").resolve())
-    rows = int(sys.argv[2]) if len(sys.argv) > 2 else 200_000
+def made_table(program, rows, folder):
+    """Writes the lists of a made table, each into a file of its name, and a catalog of them. The names."""
     made = subprocess.run([program, "make", "--start", "7", "--count", str(rows), "--lists", str(LISTS)], capture_output=True, text=True).stdout
-    with tempfile.TemporaryDirectory() as folder, contextlib.ExitStack() as nodes:
-        folder, ports = pathlib.Path(folder), {}
-        for section in made.split("list ")[1:]:
-            name, _, text = section.partition("\n")
-            (folder / f"{name}.csv").write_text(text)
-            ports[name] = free_port()
-        files = folder / "files.csv"
-        files.write_text("name,place,random\n" + "".join(f"{name},{folder}/{name}.csv,yes\n" for name in ports))
+    names = []
+    for section in made.split("list ")[1:]:
+        name, _, text = section.partition("\n")
+        (folder / f"{name}.csv").write_text(text)
+        names.append(name)
+    (folder / "files.csv").write_text("name,place,random\n" + "".join(f"{name},{folder}/{name}.csv,yes\n" for name in names))
+    return names
+
+
+@contextlib.contextmanager
+def served(program, names, folder):
+    """Nodes of the lists, which listen at the ports that are given by their names."""
+    with contextlib.ExitStack() as nodes:
+        ports = {name: free_port() for name in names}
         for name, port in ports.items():
-            node = subprocess.Popen([program, "node", files, name, "--at", str(port)], stdout=subprocess.DEVNULL)
+            node = subprocess.Popen([program, "node", folder / "files.csv", name, "--at", str(port)], stdout=subprocess.DEVNULL)
             nodes.callback(node.wait)
             nodes.callback(node.kill)
-        catalog = folder / "hosts.csv"
-        catalog.write_text("name,place,random\n" + "".join(f"{name},http://127.0.0.1:{port}/lists/{name},yes\n" for name, port in ports.items()))
         for port in ports.values():
             while True:
                 with contextlib.suppress(OSError), socket.create_connection(("127.0.0.1", port)):
                     break
                 time.sleep(0.05)
+        yield ports
+
+
+def main():
+    program = str(pathlib.Path(sys.argv[1] if len(sys.argv) > 1 else "topk").resolve())
+    rows = int(sys.argv[2]) if len(sys.argv) > 2 else 200_000
+    with tempfile.TemporaryDirectory() as folder, contextlib.ExitStack() as nodes:
+        folder = pathlib.Path(folder)
+        ports = nodes.enter_context(served(program, made_table(program, rows, folder), folder))
+        catalog = folder / "hosts.csv"
+        catalog.write_text("name,place,random\n" + "".join(f"{name},http://127.0.0.1:{port}/lists/{name},yes\n" for name, port in ports.items()))
         seconds, taken, best = whole(ports)
         print(f"whole lists: {LISTS * rows} rows, {taken / 1e6:.1f} MB, {seconds:.2f} s")
         of_all = f"top 10 by sum({','.join(ports)})"

@@ -101,10 +101,10 @@ def gone(program: str) -> str | None:
 
 
 def breaks_off(program: str) -> str | None:
-    """A host that breaks off a connection in place of its reply fails that call."""
+    """A host that breaks off each connection of a call in place of its reply fails that call."""
     for call in (hosts.ROW, hosts.GRADE):
         def reply(target: str, number: int) -> bytes:
-            if target[7] == "A" and number == call:
+            if target == call:
                 raise Reset
             return answered(target)
 
@@ -212,7 +212,7 @@ def server_over_silence(program: str) -> str | None:
     ended = threading.Event()
 
     def reply(target: str, number: int) -> bytes:
-        if target[7] == "A" and number == hosts.ROW:
+        if target == hosts.ROW:
             ended.wait(SECONDS)
         return answered(target)
 

@@ -4,6 +4,7 @@ The table is L of the certificate's page: A has 1 900, 2 800, 3 100 and B has 2 
 """
 from __future__ import annotations
 
+import collections
 import contextlib
 import os
 import pathlib
@@ -23,9 +24,11 @@ from special import differs, run, write
 DATA = pathlib.Path(__file__).resolve().parent.parent / "crates" / "topk" / "data"
 LISTS = {"A": [(1, 900), (2, 800), (3, 100)], "B": [(2, 700), (3, 600), (1, 500)]}
 QUERY = b"top 1 by sum(A,B) using ta"
-# One call after another, and none that isn't needed: A is asked for its size, row 1, the grade of 2, row 2, the grade of 3.
+# No call that isn't needed, and those of each list one after another: A is asked for its size, row 1, the grade of 2, row 2, the grade of 3.
 ALONE = ("--workers", "1", "--page", "1", "--ahead", "0")
-SIZE, ROW, GRADE = 1, 2, 3
+SIZE, ROW, GRADE = "/lists/A/size", "/lists/A/page?from=0&count=1", "/lists/A/grade?object=2"
+# The seconds for which a node holds back a reply until what it waits for comes.
+PATIENCE = 20
 CERTIFICATE = b"""certificate 1
 query top 1 by sum(A,B) using ta
 count 3
@@ -41,6 +44,17 @@ s B 3 600
 r A 3 100
 end
 """
+# Four lists of four objects, each with another object first.
+FOUR = {
+    "A": [(1, 109), (2, 90), (3, 50), (4, 10)],
+    "B": [(2, 100), (3, 90), (4, 50), (1, 10)],
+    "C": [(3, 100), (4, 90), (1, 50), (2, 10)],
+    "D": [(4, 100), (1, 90), (2, 50), (3, 10)],
+}
+ROUND = {"A": "B", "B": "C", "C": "D", "D": "A"}
+# Of each algorithm, how many of the calls for grades of which lists it can make beside which others: `ta` the three that each list lacks at depth 1,
+# `ca` the three of object 1, which A has first.
+BESIDE = {"ta": (ROUND, 3), "nra": ({}, 0), "ca": ({"B": "C", "C": "D", "D": "B"}, 1)}
 # What a line over B comes to that is the second.
 B_ENDS = b"""certificate 2
 query top 3 by B using nra
@@ -54,7 +68,7 @@ s B 3 600
 s B 1 500
 end
 """
-# What a node replies to one of A's requests, the others being answered well, and what becomes of the line then.
+# What a node replies to one of A's requests, each time that it is made, the others being answered well, and what becomes of the line then.
 REPLIES = [
     ("no reply to size", SIZE, b"", b"refused 1 NotOpened A\n"),
     ("size isn't there", SIZE, b"HTTP/1.1 404 Not Found\r\nContent-Length: 0\r\n\r\n", b"refused 1 NotOpened A\n"),
@@ -79,17 +93,36 @@ REPLIES = [
 ]
 
 
-def answered(target: str, version: int = 0) -> bytes:
-    """What a node of L replies to a target that it knows."""
-    name, call = re.fullmatch(r"/lists/([AB])/(.*)", target).groups()
+def answered(target: str, version: int = 0, lists: dict[str, list[tuple[int, int]]] = LISTS) -> bytes:
+    """What a node of a table replies to a target that it knows."""
+    name, call = re.fullmatch(r"/lists/([A-D])/(.*)", target).groups()
     stated = f',"version":{version}' if version else ""
     if call == "size":
-        return bridges.answer(f'{{"count":{len(LISTS[name])}{stated}}}')
+        return bridges.answer(f'{{"count":{len(lists[name])}{stated}}}')
     if page := re.fullmatch(r"page\?from=(\d+)&count=(\d+)", call):
-        rows = LISTS[name][int(page[1]):][:int(page[2])]
+        rows = lists[name][int(page[1]):][:int(page[2])]
         return bridges.answer('{"rows":[' + ",".join(f"[{row[0]},{row[1]}]" for row in rows) + f"]{stated}}}")
     wanted = int(re.fullmatch(r"grade\?object=(\d+)", call)[1])
-    return bridges.answer(f'{{"grade":{dict(LISTS[name])[wanted]}{stated}}}')
+    return bridges.answer(f'{{"grade":{dict(lists[name])[wanted]}{stated}}}')
+
+
+def beside(neighbours: dict[str, str], many: int) -> Callable[[str, int], bytes]:
+    """What nodes of FOUR reply which answer a call once as many of its kind were made of the list beside it, and fail it where it waits in vain: each
+    call for a page, and so many of those for grades of the lists that have neighbours for these. So none is answered that is made alone."""
+    made: collections.Counter[tuple[str, str]] = collections.Counter()
+    changed = threading.Condition()
+
+    def reply(target: str, _: int) -> bytes:
+        name, call = re.match(r"/lists/(.)/(\w+)", target).groups()
+        with changed:
+            made[call, name] += 1
+            number = made[call, name]
+            changed.notify_all()
+            other = ROUND[name] if call == "page" else neighbours.get(name, name) if call == "grade" and number <= many else name
+            if not changed.wait_for(lambda: made[call, other] >= number, PATIENCE):
+                return b""
+        return answered(target, lists=FOUR)
+    return reply
 
 
 class Reset(Exception):
@@ -157,11 +190,11 @@ def at_versions(program: str) -> str | None:
 
 def requests(program: str) -> str | None:
     """Each call is one request, and none is made that the query doesn't need."""
-    wanted = ["/lists/A/size", "/lists/B/size", "/lists/A/page?from=0&count=1", "/lists/B/page?from=0&count=1", "/lists/B/grade?object=1",
-              "/lists/A/grade?object=2", "/lists/A/page?from=1&count=1", "/lists/B/page?from=1&count=1", "/lists/A/grade?object=3"]
+    wanted = ["/lists/A/size", "/lists/A/page?from=0&count=1", "/lists/A/grade?object=2", "/lists/A/page?from=1&count=1", "/lists/A/grade?object=3",
+              "/lists/B/size", "/lists/B/page?from=0&count=1", "/lists/B/grade?object=1", "/lists/B/page?from=1&count=1"]
     with node(lambda target, number: answered(target)) as (port, targets):
         wrong = differs(run_over(program, port, *ALONE), 0, CERTIFICATE.replace(b"version A 7\n", b""))
-        return wrong or (None if targets == wanted else f"asked for {targets}")
+        return wrong or (None if sorted(targets, key=lambda target: target[7]) == wanted else f"asked for {targets}")
 
 
 def moved(program: str) -> str | None:
@@ -175,7 +208,7 @@ def moved(program: str) -> str | None:
 def replies(program: str) -> str | None:
     """Whatever one reply says, the line is answered or refused by name."""
     for name, call, bad, wanted in REPLIES:
-        with node(lambda target, number: bad if target[7] == "A" and number == call else answered(target)) as (port, targets):
+        with node(lambda target, number: bad if target == call else answered(target)) as (port, targets):
             wrong = differs(run_over(program, port, *ALONE), 1, wanted)
             if wrong is not None:
                 return f"{name}: {wrong}"
@@ -184,9 +217,9 @@ def replies(program: str) -> str | None:
 
 def cut(program: str) -> str | None:
     """A reply that is cut after any of its bytes is garbled."""
-    whole = answered("/lists/A/page?from=0&count=1")
+    whole = answered(ROW)
     for length in range(len(whole)):
-        with node(lambda target, number: whole[:length] if target[7] == "A" and number == ROW else answered(target)) as (port, targets):
+        with node(lambda target, number: whole[:length] if target == ROW else answered(target)) as (port, targets):
             wrong = differs(run_over(program, port, *ALONE), 1, b"refused 1 Garbled A\n")
             if wrong is not None:
                 return f"after {length} bytes: {wrong}"
@@ -197,6 +230,31 @@ def nobody(program: str) -> str | None:
     """Where nobody listens the list isn't opened."""
     with free_port() as port:
         return differs(run_over(program, port), 1, b"refused 1 NotOpened A\n")
+
+
+def over_four(program: str, algorithm: str, workers: int, place: str) -> str | None:
+    """What is wrong with as many lines by an algorithm as there are workers, over nodes that answer no call that is made alone, or None."""
+    lines = f"top 1 by sum(A,B,C,D) using {algorithm}\n".encode() * workers
+    files = run(program, ["run", "catalog.csv"], lines, place)
+    reply = beside(*BESIDE[algorithm])
+    with contextlib.ExitStack() as nodes:
+        ports = {name: nodes.enter_context(node(reply))[0] for name in FOUR}
+        return differs(run_at(program, ports, lines, "--workers", str(workers), *ALONE[2:]), 0, files.stdout)
+
+
+def side_by_side(program: str) -> str | None:
+    """The calls that a query is certain to make of four nodes are made side by side, by one worker and by four, and its certificates are those over
+    files."""
+    with tempfile.TemporaryDirectory() as place:
+        for name, rows in FOUR.items():
+            write(place, f"{name}.csv", "".join(f"{row[0]},{row[1]}\n" for row in rows))
+        write(place, "catalog.csv", "name,place,random\n" + "".join(f"{name},{name}.csv,yes\n" for name in FOUR))
+        for algorithm in BESIDE:
+            for workers in (1, 4):
+                wrong = over_four(program, algorithm, workers, place)
+                if wrong is not None:
+                    return f"{algorithm} by {workers}: {wrong}"
+    return None
 
 
 def bridge(program: str) -> str | None:
@@ -219,5 +277,5 @@ def bridge(program: str) -> str | None:
 
 def tests() -> Iterator[tuple[str, Callable[[str], str | None]]]:
     """Each test with its name."""
-    for test in (at_versions, requests, moved, replies, cut, nobody, bridge):
+    for test in (at_versions, requests, moved, replies, cut, nobody, side_by_side, bridge):
         yield f"hosts_{test.__name__}", over_network(test)

@@ -24,6 +24,7 @@ pub static AHEAD: Case = Case {
             }),
         ),
     ],
+    far: &[],
     counts: &[3, 3],
     asked: &[FIRST],
     settings: Settings {
@@ -66,6 +67,7 @@ pub static UNDER_WAY: Case = Case {
             }),
         ),
     ],
+    far: &[],
     counts: &[2, 2],
     asked: &[FIRST],
     settings: Settings {

@@ -25,16 +25,16 @@ const ONE_ROW: Figures = Figures {
 
 const A_ENDS: Expected = Expected::Answered(&[(1, 900, 900)], ONE_ROW);
 
-const B_ENDS: Expected = Expected::Answered(&[(2, 700, 700)], ONE_ROW);
+pub const B_ENDS: Expected = Expected::Answered(&[(2, 700, 700)], ONE_ROW);
 
 /// A third list.
-const C: Held = Held {
+pub const C: Held = Held {
     place: "a",
     rows: &[(3, 300), (1, 200), (2, 100)],
     kind: Kind::Honest,
 };
 
-const C_ENDS: Expected = Expected::Answered(&[(3, 300, 300)], ONE_ROW);
+pub const C_ENDS: Expected = Expected::Answered(&[(3, 300, 300)], ONE_ROW);
 
 /// Each of two queries needs a call that waits for the call that the other one needs.
 pub static BOTH: Case = Case {
@@ -51,6 +51,7 @@ pub static BOTH: Case = Case {
         ),
         (B, Some(GATE)),
     ],
+    far: &[],
     counts: &[3, 3],
     asked: &[
         ("top 1 by A using nra", &[0]),
@@ -78,6 +79,7 @@ pub static LATE: Case = Case {
         (B, None),
         (C, None),
     ],
+    far: &[],
     counts: &[3, 3, 3],
     asked: &[
         ("top 1 by A using nra", &[0]),

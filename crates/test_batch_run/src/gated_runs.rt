@@ -3,7 +3,7 @@
 ghost use Rattle.std.specs.Prelude.{◌≡◌, None, All, OnSome};
 
 use super::batch_runs::{Batching, Ran, Used, run_ends_so};
-use super::waiting::{Call, Gate, Gated};
+use super::waiting::{Call, Far, Gate, Gated, Made, PATIENCE};
 use batch_run::Settings;
 use fetcher::Slot;
 use source_api::{FailKind, Trouble};
@@ -18,11 +18,12 @@ use test_query_support::{Asked, Expected};
 /// A source, and its call that waits.
 pub type Waiter = (Held, Option<Gate>);
 
-/// A batch: sources, how many objects each has, queries, settings, how the queries end, and how many calls of the first source have
-/// failed by then.
+/// A batch: sources, which of them are far, by their numbers, how many objects each has, queries, settings, how the queries end, and how many calls
+/// of the first source have failed by then.
 #[derive(Clone, Copy)]
 pub struct Case {
     pub waiters: &'static [Waiter],
+    pub far: &'static [Far],
     pub counts: &'static [u32],
     pub asked: &'static [Asked],
     pub settings: Settings,
@@ -35,20 +36,26 @@ pub const GATE: Gate = Gate {
     call: Call::Page(1),
     source: 0,
     until: 1,
-    patience: 1_000_000_000,
+    patience: PATIENCE,
     trouble: Trouble::Fail(FailKind::Failed),
 };
 
-/// No call made of any of three sources.
-fn no_calls() -> [AtomicU64; 3] {
-    [AtomicU64::new(0), AtomicU64::new(0), AtomicU64::new(0)]
+/// No call made of any of four sources.
+fn no_calls() -> [AtomicU64; 4] {
+    [
+        AtomicU64::new(0),
+        AtomicU64::new(0),
+        AtomicU64::new(0),
+        AtomicU64::new(0),
+    ]
 }
 
 /// Adds a slot of a source that waits, with its number. None without memory.
 fn add_slot<'a>(
     alloc: Global,
     waiter: &Waiter,
-    pages: &'a [AtomicU64],
+    far: Option<Far>,
+    made: Made<'a>,
     number: usize,
     slots: &mut Vec<Slot<Gated<'a>>>,
 ) -> Option<()>
@@ -61,23 +68,25 @@ fn add_slot<'a>(
     let Some(rows) = source_of(alloc, &waiter.0) else {
         return None;
     };
-    let slot = Slot::make(Gated::make(rows, pages, number, waiter.1));
+    let slot = Slot::make(Gated::make(rows, made, number, waiter.1, far));
     slots.push_reserved(slot);
     Some(())
 }
 
-/// Adds a slot of each source. The calls for their pages are counted in `pages`, by their numbers. None without memory.
+/// Adds a slot of each source. Their calls are counted in `made`, by their numbers. None without memory.
 fn add_slots<'a>(
     alloc: Global,
     waiters: &[Waiter],
-    pages: &'a [AtomicU64],
+    far: &[Far],
+    made: Made<'a>,
     slots: &mut Vec<Slot<Gated<'a>>>,
 ) -> Option<()>
     requires { All (λ slot. slot.feeder ≡ None) slots.old.items }
     ensures { OnSome result (All (λ slot. slot.feeder ≡ None) slots.new.items) }
 {
     for (number, waiter) in waiters.iter().enumerate() {
-        add_slot(alloc, waiter, pages, number, slots)?;
+        let beside = far.get(number).copied();
+        add_slot(alloc, waiter, beside, made, number, slots)?;
     }
     Some(())
 }
@@ -170,14 +179,14 @@ fn is_run_so<R: Threads + Wait + Sync>(
 fn go_so<'a, R: Threads + Wait + Sync>(
     rt: &R,
     alloc: Global,
-    pages: &'a [AtomicU64],
+    made: Made<'a>,
     slots: &mut Vec<Slot<Gated<'a>>>,
     case: &Case,
     runs: Runs,
 ) -> Result<bool, Fail>
     requires { All (λ slot. slot.feeder ≡ None) slots.old.items }
 {
-    match add_slots(alloc, case.waiters, pages, slots) {
+    match add_slots(alloc, case.waiters, case.far, made, slots) {
         Some(()) => is_run_so(rt, alloc, slots, case, runs),
         None => Err("memory".into()),
     }
@@ -190,9 +199,13 @@ fn goes<R: Threads + Wait + Sync>(
     case: &Case,
     runs: Runs,
 ) -> Result<bool, Fail> {
-    let pages = no_calls();
+    let (pages, grades) = (no_calls(), no_calls());
+    let made = Made {
+        pages: &pages,
+        grades: &grades,
+    };
     let mut slots = Vec::new(alloc);
-    let so = go_so(rt, alloc, &pages, &mut slots, case, runs);
+    let so = go_so(rt, alloc, made, &mut slots, case, runs);
     drop(slots);
     so
 }

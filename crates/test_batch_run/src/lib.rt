@@ -15,6 +15,8 @@ mod beside;
 #[cfg(test)]
 mod cases;
 #[cfg(test)]
+mod far;
+#[cfg(test)]
 mod faults;
 #[cfg(test)]
 mod gated_runs;

@@ -2,7 +2,8 @@
 
 use super::cases::first_wrong;
 use super::gated_runs::{goes_again, goes_so};
-use super::{ahead, beside, faults, grades, shortage, tables};
+use super::{ahead, beside, far, faults, grades, shortage, tables};
+use batch_run::Settings;
 use std::alloc::Global;
 use std::process::Abort;
 use std::sync::Wait;
@@ -66,6 +67,41 @@ fn queries_and_fetchers_run_at_the_same_time(rt: HostRuntime) -> Result<(), Fail
         &beside::BOTH,
         &beside::LATE,
     ];
+    none_is_wrong(&rt, first_otherwise(&rt, rt.alloc(), &cases)?);
+    Ok(())
+}
+
+/// A batch by four workers.
+fn by_four(case: &crate::gated_runs::Case) -> crate::gated_runs::Case {
+    crate::gated_runs::Case {
+        settings: Settings {
+            workers: 4,
+            ..case.settings
+        },
+        ..*case
+    }
+}
+
+/// The same batch over sources that aren't far.
+fn near(case: &crate::gated_runs::Case) -> crate::gated_runs::Case {
+    crate::gated_runs::Case { far: &[], ..*case }
+}
+
+/// Over sources that are far, the calls of a line go side by side, and it ends as over near ones, by one worker and by four.
+#[test]
+fn calls_of_far_sources_go_side_by_side(rt: HostRuntime) -> Result<(), Fail> {
+    for case in &[far::BY_TA, far::BY_NRA, far::BY_CA] {
+        let cases = [case, &near(case), &by_four(case)];
+        none_is_wrong(&rt, first_otherwise(&rt, rt.alloc(), &cases)?);
+    }
+    Ok(())
+}
+
+/// A call that a line foresaw and that fails before the line needs it refuses the line nothing, which asks again.
+#[test]
+fn a_foreseen_call_that_fails_refuses_nothing(rt: HostRuntime) -> Result<(), Fail> {
+    let case = far::FAILS;
+    let cases = [&case, &near(&case)];
     none_is_wrong(&rt, first_otherwise(&rt, rt.alloc(), &cases)?);
     Ok(())
 }

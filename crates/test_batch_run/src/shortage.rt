@@ -23,6 +23,7 @@ pub static SHORT: Case = Case {
         ),
         (B, None),
     ],
+    far: &[],
     counts: &[3, 3],
     asked: &[FIRST],
     settings: Settings {

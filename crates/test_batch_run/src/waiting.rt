@@ -1,4 +1,4 @@
-//! A source of which one call waits until calls of another source were made.
+//! A source of which one call waits until calls of another source were made, or each call of one that is far.
 
 ghost use Rattle.std.specs.Prelude.{◌≡◌, ◌≤◌, vec_len, IfOk, IfErr, IfSome, OnErr, OnOk};
 ghost use Rattle.source_api.specs.Counting.{NoneFell, TroubleHasCause, CountsAlone, MovedHasCause, GaveNothing, GaveRows, GaveGrade, gave_rows, gave_grade};
@@ -11,11 +11,31 @@ use std::alloc::Global;
 use std::sync::atomic::{AtomicU64, Ordering};
 use test_mem_source::MemSource;
 
+/// How many calls for pages, and for grades, were made of each source.
+#[derive(Clone, Copy)]
+pub struct Made<'a> {
+    pub pages: &'a [AtomicU64],
+    pub grades: &'a [AtomicU64],
+}
+
 /// A call of a source, by its number from 1 among those of its kind.
 #[derive(Clone, Copy, PartialEq, Eq)]
 pub enum Call {
     Page(u64),
     Grade(u64),
+}
+
+/// How often a call looks whether those that it waits for were made before it gives up.
+pub const PATIENCE: u64 = 1_000_000_000;
+
+/// Of a source that is far, the sources beside which its calls are made: each waits until as many of its kind were made there, its own with them, and
+/// fails if it waits in vain. So one that is beside itself waits for nothing.
+#[derive(Clone, Copy)]
+pub struct Far {
+    /// The number of the source beside which its pages are called for.
+    pub pages: usize,
+    /// That of its grades, and how many of the calls for these wait; later ones wait for nothing.
+    pub grades: (usize, u64),
 }
 
 /// The call that waits, and what it waits for: until so many calls for pages of another source were made.
@@ -31,44 +51,64 @@ pub struct Gate {
     pub trouble: Trouble,
 }
 
-/// Rows in memory, of which one call may wait.
+/// Rows in memory, of which calls may wait.
 #[derive(Drop)]
 pub struct Gated<'a> {
     rows: MemSource,
-    /// How many calls for pages were made of each source.
-    pages: &'a [AtomicU64],
+    made: Made<'a>,
     /// The number of this source.
     number: usize,
-    grades: u64,
     gate: Option<Gate>,
+    far: Option<Far>,
     counts: Counts,
 }
 
-/// Counts a call for a page of a source, and tells its number.
-fn count_call(pages: &[AtomicU64], source: usize) -> u64 {
-    match pages.get(source) {
+/// Counts a call of a source among those of its kind, and tells its number.
+fn count_call(calls: &[AtomicU64], source: usize) -> u64 {
+    match calls.get(source) {
         Some(made) => made.fetch_add(1, Ordering::SeqCst).saturating_add(1),
         None => 0,
     }
 }
 
-/// Whether what is waited for comes in time.
-fn opens(gate: Gate, pages: &[AtomicU64]) -> bool {
-    let Some(made) = pages.get(gate.source) else {
+/// Whether so many calls of a source are made in time.
+fn come(calls: &[AtomicU64], source: usize, until: u64, patience: u64) -> bool {
+    let Some(made) = calls.get(source) else {
         return false;
     };
-    for _ in 0..gate.patience {
-        if made.load(Ordering::SeqCst) >= gate.until {
+    for _ in 0..patience {
+        if made.load(Ordering::SeqCst) >= until {
             return true;
         }
     }
     false
 }
 
-/// How a call ends that waits in vain.
-fn trouble_at(gate: Option<Gate>, pages: &[AtomicU64], call: Call) -> Option<Trouble> {
+/// Whether a call of a source that is far goes on beside one of another source.
+fn is_beside(far: Far, made: Made<'_>, call: Call) -> bool {
+    match call {
+        Call::Page(number) => come(made.pages, far.pages, number, PATIENCE),
+        Call::Grade(number) => {
+            number > far.grades.1 || come(made.grades, far.grades.0, number, PATIENCE)
+        }
+    }
+}
+
+/// How the call that waits ends where it waits in vain.
+fn trouble_at(gate: Option<Gate>, made: Made<'_>, call: Call) -> Option<Trouble> {
     match gate {
-        Some(gate) if gate.call == call && !opens(gate, pages) => Some(gate.trouble),
+        Some(gate)
+            if gate.call == call && !come(made.pages, gate.source, gate.until, gate.patience) => {
+            Some(gate.trouble)
+        }
+        _ => None,
+    }
+}
+
+/// How a call of a source that may be far ends where it waits in vain.
+fn trouble_beside(far: Option<Far>, made: Made<'_>, call: Call) -> Option<Trouble> {
+    match far {
+        Some(far) if !is_beside(far, made, call) => Some(Trouble::Fail(FailKind::Failed)),
         _ => None,
     }
 }
@@ -158,17 +198,26 @@ impl<'a> Gated<'a> {
     /// The source with a number, of these rows.
     pub fn make(
         rows: MemSource,
-        pages: &'a [AtomicU64],
+        made: Made<'a>,
         number: usize,
         gate: Option<Gate>,
+        far: Option<Far>,
     ) -> Gated<'a> {
         Gated {
             rows,
-            pages,
+            made,
             number,
-            grades: 0,
             gate,
+            far,
             counts: Counts::none(),
+        }
+    }
+
+    /// How a call ends that waits in vain.
+    fn trouble(&self, call: Call) -> Option<Trouble> {
+        match trouble_at(self.gate, self.made, call) {
+            Some(trouble) => Some(trouble),
+            None => trouble_beside(self.far, self.made, call),
         }
     }
 
@@ -195,16 +244,16 @@ impl<'a> Source for Gated<'a> {
     }
 
     fn page(&mut self, alloc: Global, from: u32, count: u32) -> Result<Vec<Row>, Trouble> {
-        let call = count_call(self.pages, self.number);
-        let trouble = trouble_at(self.gate, self.pages, Call::Page(call));
+        let call = Call::Page(count_call(self.made.pages, self.number));
+        let trouble = self.trouble(call);
         let page = page_of(&mut self.rows, alloc, from, count, trouble);
         self.counts = with_page(self.counts, &page);
         page
     }
 
     fn grade(&mut self, alloc: Global, object: u32) -> Result<Option<u32>, Trouble> {
-        self.grades = self.grades.saturating_add(1);
-        let trouble = trouble_at(self.gate, self.pages, Call::Grade(self.grades));
+        let call = Call::Grade(count_call(self.made.grades, self.number));
+        let trouble = self.trouble(call);
         let grade = grade_of(&mut self.rows, alloc, object, trouble);
         self.counts = with_grade(self.counts, grade);
         grade
@@ -212,6 +261,10 @@ impl<'a> Source for Gated<'a> {
 
     fn version(&self) -> u64 {
         self.rows.version()
+    }
+
+    fn is_far(&self) -> bool {
+        self.far.is_some()
     }
 
     ghost distinct = { λ s. told_has_each_once s.rows };

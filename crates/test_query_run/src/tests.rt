@@ -235,19 +235,19 @@ const ROWS: &[Case] = &[
 
 /// Calls that fail, and answers that cannot be read.
 const CALLS: &[Case] = &[
-    // the first page of B fails
+    // the first page of A fails: nothing is needed before it, so it isn't foreseen
     Case {
         asked: FIRST,
         held: (
-            &A,
             &Held {
-                place: "b",
-                rows: ROWS_B,
+                place: "a",
+                rows: ROWS_A,
                 kind: Kind::FailsAtPage(1),
             },
+            &B,
         ),
         count: 3,
-        ends: Expected::Look(1, LookFault::Call(FailKind::Failed)),
+        ends: Expected::Look(0, LookFault::Call(FailKind::Failed)),
     },
     // the second page of A can't be read
     Case {

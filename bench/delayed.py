@@ -1,0 +1,87 @@
+#!/usr/bin/env python3
+"""Queries over four nodes that are far: each connection to one comes to it only after some milliseconds.
+
+Use, from anywhere, with the program at ./topk (`make topk`) or the place given: bench/delayed.py [PROGRAM [ROWS [MILLISECONDS]]]
+
+The lists are a made table of 20,000 objects, each served by `topk node`. Of each query it prints how many calls each list had, the most calls of which
+each came after the one before it, and the seconds beside those of a plain client that makes the calls of the busiest list again.
+"""
+import contextlib
+import pathlib
+import socket
+import socketserver
+import sys
+import tempfile
+import threading
+import time
+
+from nodes import asked, made_table, run, served
+
+
+@contextlib.contextmanager
+def delayed(port, seconds):
+    """A port behind which a node is so far away, and what it was asked for with the moments at which each call came and went."""
+    calls = []
+
+    class Link(socketserver.StreamRequestHandler):
+        def handle(self):
+            came, head = time.monotonic(), self.rfile.readline()
+            while (line := self.rfile.readline()) not in (b"\r\n", b""):
+                head += line
+            time.sleep(seconds)
+            with socket.create_connection(("127.0.0.1", port)) as node:
+                node.sendall(head + b"\r\n")
+                while piece := node.recv(1 << 16):
+                    self.wfile.write(piece)
+            calls.append((came, time.monotonic(), head.split(b" ")[1].decode()))
+
+    class Server(socketserver.ThreadingTCPServer):
+        request_queue_size = 128
+
+    with Server(("127.0.0.1", 0), Link) as server:
+        threading.Thread(target=server.serve_forever, args=(0.01,), daemon=True).start()
+        yield server.server_address[1], calls
+        server.shutdown()
+
+
+def one_after_another(calls):
+    """The most calls of which each came when the one before it had gone."""
+    count, last = 0, 0
+    for came, gone, _ in sorted(calls, key=lambda call: call[1]):
+        if came >= last:
+            count, last = count + 1, gone
+    return count
+
+
+def again(port, targets):
+    """Seconds of calls that are made one after another."""
+    begun = time.monotonic()
+    for target in targets:
+        asked(port, target)
+    return time.monotonic() - begun
+
+
+def main():
+    program = str(pathlib.Path(sys.argv[1] if len(sys.argv) > 1 else "topk").resolve())
+    rows = int(sys.argv[2]) if len(sys.argv) > 2 else 20_000
+    seconds = (float(sys.argv[3]) if len(sys.argv) > 3 else 10) / 1000
+    with tempfile.TemporaryDirectory() as folder, contextlib.ExitStack() as nodes:
+        near = nodes.enter_context(served(program, made_table(program, rows, pathlib.Path(folder)), pathlib.Path(folder)))
+        far = {name: nodes.enter_context(delayed(port, seconds)) for name, port in near.items()}
+        catalog = pathlib.Path(folder) / "far.csv"
+        catalog.write_text("name,place,random\n" + "".join(f"{name},http://127.0.0.1:{port}/lists/{name},yes\n" for name, (port, _) in far.items()))
+        for algorithm, words in (("ta", ()), ("nra", ()), ("nra", ("--ahead", "0")), ("ca cost 1 5", ())):
+            for _, calls in far.values():
+                calls.clear()
+            took, text = run(program, catalog, f"top 10 by sum({','.join(near)}) using {algorithm}\n", 100, *words)
+            stop = next(line for line in text.splitlines() if line.startswith("stop "))
+            counts = {name: len(calls) for name, (_, calls) in far.items()}
+            in_turn = one_after_another([call for _, calls in far.values() for call in calls])
+            port, calls = far[max(counts, key=counts.get)]
+            plain = again(port, [target for _, _, target in list(calls)])
+            print(f"{' '.join([algorithm, *words])}: {stop}; calls {list(counts.values())}, {in_turn} one after another; {took:.2f} s, "
+                  f"the busiest list's alone {plain:.2f} s, ratio {took / plain:.2f}")
+
+
+if __name__ == "__main__":
+    main()
