@@ -5,8 +5,6 @@ mod LineLaws
 mod EndLaws
 mod AnswerLaws
 mod FailLaws
--- Lemmas on links that are taken one after another.
-pub mod TakingLaws
 -- Lemmas on the sources of lists, on counts, and on what a generation leaves of the sources.
 pub mod HomeLaws
 pub mod SourceLaws

@@ -6,7 +6,7 @@ pub mod Connections
 -- What a worker remembers of the lines that it answered.
 pub mod Answers
 -- What is taken of a port whose links are put into a queue.
-pub mod Accepting
+pub use Rattle.link_queue.specs.Accepting
 -- Which sources the open lists of a catalog have, and how many objects a pool is to have of each.
 pub mod Homes
 -- What a server leaves of the sources, and how it ends.

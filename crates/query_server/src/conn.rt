@@ -20,7 +20,7 @@ use tk_io::Link;
 use wire::{Head, Kind, WireFault, read_request, write_reply};
 
 /// How a connection ended.
-#[derive(Clone, Copy, Debug, PartialEq, Eq)]
+#[derive(Clone, Copy, PartialEq, Eq)]
 pub enum ConnEnd {
     /// The whole reply was written, with this status.
     Replied { status: u16 },
@@ -30,7 +30,7 @@ pub enum ConnEnd {
 }
 
 /// How a connection ended, and whether its line was refused since a source moved to another version.
-#[derive(Clone, Copy, Debug, PartialEq, Eq)]
+#[derive(Clone, Copy)]
 pub struct Turn {
     pub end: ConnEnd,
     pub moved: bool,

@@ -9,12 +9,12 @@ ghost use Rattle.query_server.specs.Serving.{KeepsSources};
 use super::counting::counts_of;
 use super::homes::homes_of;
 use super::opened::Opened;
-use super::queue::LinkQueue;
 use super::reopening::entries_again;
 use super::sides::serve_sides;
 use batch_run::{Crew, lend, take_back};
 use fetcher::Slot;
 use limits::{Memory, Settings};
+use link_queue::LinkQueue;
 use source_api::Source;
 use std::alloc::Global;
 use std::sync::Wait;
@@ -125,11 +125,15 @@ fn serve_generations<W: Threads + Wait + Sync, S: Source, L: Link + Send + Drop>
     ensures home { AreAtHome homes.now catalog.new.entries }
 {
     for _ in rt.forever() {
-        serve_generation(rt, alloc, catalog, slots, queue, settings)?;
+        let Ok(()) = serve_generation(rt, alloc, catalog, slots, queue, settings) else {
+            return Err(Memory);
+        };
         if !queue.has_more(rt) {
             return Ok(());
         }
-        reopen(alloc, homes, catalog, slots)?;
+        let Ok(()) = reopen(alloc, homes, catalog, slots) else {
+            return Err(Memory);
+        };
         queue.resume(rt);
     }
     Ok(())

@@ -9,7 +9,6 @@
 //! size again, and a new pool is there.
 #![tactic(auto)]
 
-mod accepting;
 mod answers;
 mod asked;
 mod conn;
@@ -20,18 +19,14 @@ mod homes;
 mod laws;
 mod line;
 mod opened;
-mod queue;
 mod reopening;
 mod server;
 mod sides;
 mod text;
-mod waiting;
 
-pub use accepting::{Accepted, accept_all};
 pub use answers::{Answers, MAX_ANSWER, MAX_ANSWERS};
 pub use conn::{ConnEnd, Turn, serve_conn};
 pub use laws::fails_are_shown;
 pub use limits::Memory;
 pub use opened::{Opened, OpenedEntry};
-pub use queue::LinkQueue;
 pub use server::{Served, serve_all};

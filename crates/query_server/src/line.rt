@@ -15,6 +15,7 @@ use super::opened::Opened;
 use super::text::line_text;
 use cert_text::{Outcome, Refusal};
 use line_outcome::{line_ended, line_refused};
+use machine_base::Answer;
 use query_admission::{Admitted, LineOutcome, Memory};
 use query_core::Ready;
 use query_run::run_query;
@@ -72,8 +73,18 @@ fn let_line_go(line: LineOutcome) {
     let_outcome_go(outcome);
 }
 
-/// Lets an outcome go. What falls out of scope here is written out once, where `drop` would bring a function for each type under it.
-fn let_outcome_go(_outcome: Outcome) {}
+/// Lets an outcome go.
+fn let_outcome_go(outcome: Outcome) {
+    match outcome {
+        Outcome::Answered(
+            Answer {
+                items: _items,
+                transcript,
+            },
+        ) => transcript.let_go(),
+        Outcome::Refused(_) => {}
+    }
+}
 
 /// Whether an outcome is an answer.
 fn is_answer(outcome: &Outcome) -> bool

@@ -14,7 +14,7 @@ use std::alloc::Global;
 use std::marker::Model;
 
 /// What became of the source of an entry.
-#[derive(Clone, Copy, Debug, PartialEq, Eq)]
+#[derive(Clone, Copy)]
 pub enum OpenedEntry {
     /// It is open, with so many objects, at most 200,000, at this version; `source` is its number in the pool.
     Opened {

@@ -5,12 +5,11 @@ ghost use Rattle.limits.specs.Ranges.{AreSettings};
 ghost use Rattle.query_server.specs.Homes.{AreHomes, AreAtHome, home_of};
 ghost use Rattle.query_server.specs.Serving.{KeepsSources, ServesLinks};
 
-use super::accepting::{Accepted, accept_all};
 use super::generation::serve_side;
 use super::opened::Opened;
-use super::queue::LinkQueue;
 use fetcher::Slot;
 use limits::Settings;
+use link_queue::{Accepted, LinkQueue, accept_all};
 use source_api::Source;
 use std::alloc::Global;
 use std::sync::Wait;
@@ -19,7 +18,7 @@ use std::thread::Threads;
 use tk_io::Port;
 
 /// How a server ended.
-#[derive(Clone, Copy, Debug, PartialEq, Eq)]
+#[derive(Clone, Copy, PartialEq, Eq)]
 pub enum Served {
     /// So many links were taken: all that were asked for, or all that came before the port ended.
     Ended { conns: u64 },
@@ -87,8 +86,5 @@ pub fn serve_all<W: Threads + Wait + Sync, S: Source, P: Port>(
         { short = serve_side(rt, alloc, catalog, sources, line, settings) },
         &mut || { served = accept_side(rt, port, line, conns) },
     );
-    if short {
-        return Served::Memory;
-    }
-    served
+    if short { Served::Memory } else { served }
 }

@@ -1,0 +1,2 @@
+-- Lemmas on links that are taken one after another.
+pub mod TakingLaws
