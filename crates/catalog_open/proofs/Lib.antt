@@ -3,6 +3,8 @@ pub mod Moving
 pub mod Opens
 pub mod Unread
 pub mod Once
+pub mod Taken
+pub mod Settled
 pub mod Back
 -- Lemmas on what query lines want and come to.
 pub mod ReadOn

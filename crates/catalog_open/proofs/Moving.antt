@@ -11,7 +11,7 @@ use Rattle.source_api.specs.declared.source.Trouble.{Trouble}
 use Rattle.source_api.specs.declared.source.FailKind.TheVariants.{Failed, Garbled, Memory}
 use Rattle.source_api.specs.declared.source.Trouble.TheVariants.{Fail, Moved}
 use Rattle.source_api.specs.Counting.{TroubleHasCause, IsNoMove, added, no_counts, raised}
-use Rattle.source_api.specs.Places.{CountsTakes, HasTakeCause, SameElsewhere, counts_taken, put_back_at, with_source}
+use Rattle.source_api.specs.Places.{CountsTakes, SameElsewhere, counts_taken, put_back_at, with_source}
 use Rattle.catalog_text.specs.Catalog.{Listed as Entry}
 use Rattle.catalog_open.specs.Openings.{Counted, Used, one_at, used_at, added_all, counted_times, PutsOneBack, MovesBut, none_held, Moves, MovesAt, TakesNone, PutsBack, KeepsOthers, TroubleAt}
 use Rattle.catalog_open.specs.Entries.{entry_at}
@@ -335,30 +335,6 @@ put_troubled before now knows first counts (Fail Garbled) is known fresh cause o
 put_troubled before now knows first counts (Fail Memory) is known fresh cause other still = absurd (other refl)
 put_troubled before now knows first counts (Moved had stated) is known fresh cause other still = absurd still
 
-failed_not : Fail Failed ≡ Fail Memory → ⊥
-failed_not e = cc
-
-garbled_not : Fail Garbled ≡ Fail Memory → ⊥
-garbled_not e = cc
-
--- the same, where the trouble is known
-pub put_failed : (before now : PlaceCounts) (knows : Bool) (first counts : Counts) (trouble : Trouble) → now ≡ put_back_at knows counts before → knows ≡ true
-    → first ≡ no_counts → TroubleHasCause first counts trouble → trouble ≡ Fail Failed → TroubleAt before now
-put_failed before now knows first counts trouble is known fresh cause failed = put_troubled before now knows first counts (Fail Failed) is known fresh (subst (TroubleHasCause first counts) failed cause) failed_not tt
-
-pub put_garbled : (before now : PlaceCounts) (knows : Bool) (first counts : Counts) (trouble : Trouble) → now ≡ put_back_at knows counts before → knows ≡ true
-    → first ≡ no_counts → TroubleHasCause first counts trouble → trouble ≡ Fail Garbled → TroubleAt before now
-put_garbled before now knows first counts trouble is known fresh cause garbled = put_troubled before now knows first counts (Fail Garbled) is known fresh (subst (TroubleHasCause first counts) garbled cause) garbled_not tt
-
--- a call that takes a source moves so
-pub take_moves : (before now : PlaceCounts) → CountsTakes before now → MovesAt before now
-take_moves before now takes = record {
-  texts = ap (λ (c : PlaceCounts). c.text_faults) takes.others;
-  takes = takes.later;
-  counts = [];
-  sources = ap (λ (c : PlaceCounts). c.sources) takes.others;
-}
-
 -- no source was taken, or one was taken and put back
 pub took_none : (before now : PlaceCounts) → CountsTakes before now → now.taken ≡ before.taken → TakesNone before now
 took_none before now takes same = record {
@@ -387,17 +363,3 @@ took_back before mid now took put =
       returned = ap (λ (c : PlaceCounts). c.returned) put.1 ∙ ap (λ (c : PlaceCounts). counted c.returned) took;
       once = omega arith;
     }
-
--- a take that failed or was answered by garbled data is trouble at its place
-pub take_trouble : (before now : PlaceCounts) (trouble : Trouble) → HasTakeCause before now trouble → (trouble ≡ Fail Memory → ⊥) → TroubleAt before now
-take_trouble before now (Fail Failed) cause other = inl cause
-take_trouble before now (Fail Garbled) cause other = inl cause
-take_trouble before now (Fail Memory) cause other = absurd (other refl)
-take_trouble before now (Moved had stated) cause other = absurd cause
-
--- the same, where the trouble is known
-pub take_failed : (before now : PlaceCounts) (trouble : Trouble) → HasTakeCause before now trouble → trouble ≡ Fail Failed → TroubleAt before now
-take_failed before now trouble cause failed = take_trouble before now (Fail Failed) (subst (HasTakeCause before now) failed cause) failed_not
-
-pub take_garbled : (before now : PlaceCounts) (trouble : Trouble) → HasTakeCause before now trouble → trouble ≡ Fail Garbled → TroubleAt before now
-take_garbled before now trouble cause garbled = take_trouble before now (Fail Garbled) (subst (HasTakeCause before now) garbled cause) garbled_not

@@ -1,20 +1,16 @@
 -- Each source is asked for once.
-use Rattle.std.proofs.Common.{◌≡◌, ◌≢◌, ℕ, zero, suc, ◌+◌, ◌≤◌, ◌<◌, Bool, true, false, List, [], ◌∷◌, ◌++◌, length, length-take-le, take, slice_index_or, Option, None, Some, Result, Ok, Err, MatchOption, IfOk, IfSome, OnOk, OnErr, refl, sym, ap, ◌∙◌, subst, arith}
+use Rattle.std.proofs.Common.{◌≡◌, ◌≢◌, ℕ, zero, suc, ◌+◌, ◌≤◌, ◌<◌, Bool, true, false, List, [], ◌∷◌, ◌++◌, length, length-take-le, take, slice_index_or, Result, Ok, Err, OnOk, refl, sym, ap, ◌∙◌, subst, arith}
 use Rattle.std.specs.Prelude.{if◌then◌else◌}
 use Rattle.std.specs.Str.{bytes_eq}
 use Rattle.std.proofs.lemmas.Bool.{false≢true}
 use Rattle.std.proofs.lemmas.List.{take_all, take_more}
 use Rattle.std.proofs.lemmas.Slice.Eq.{bytes_eq-Decides}
 use Rattle.tk_io.specs.Faults.{counted, Rose}
-use Rattle.ranked_list.specs.declared.row.Row.{Row}
 use Rattle.source_api.specs.declared.ledger.PlaceCounts.{PlaceCounts}
-use Rattle.source_api.specs.declared.source.Trouble.{Trouble}
-use Rattle.source_api.specs.declared.source.FailKind.TheVariants.{Failed, Garbled, Memory}
-use Rattle.source_api.specs.declared.source.Trouble.TheVariants.{Fail}
-use Rattle.source_api.specs.Places.{HasTakeCause, SameElsewhere, counts_taken}
+use Rattle.source_api.specs.Places.{SameElsewhere}
 use Rattle.catalog_text.specs.Catalog.{Listed as Entry}
 use Rattle.catalog_open.specs.Entries.{entry_at}
-use Rattle.catalog_open.specs.Openings.{AsksAtMost, AsksEachAtMostOnce, AsksEachOnce, AsksFor, Counted, IsAtVersion, PutsBack, PutsOneBack, TroubleAt, Used, counted_times, marked_at, one_at}
+use Rattle.catalog_open.specs.Openings.{AsksAtMost, AsksEachAtMostOnce, AsksEachOnce, AsksFor, Counted, PutsBack, Used, counted_times, marked_at, one_at}
 use Rattle.catalog_open.proofs.Moving.{times_add}
 
 -- what holds in any case
@@ -43,43 +39,13 @@ asks_given before now taken same = record { given = 1; failed = 0; all = refl; t
 pub asks_failed : (before now : PlaceCounts) → now.taken ≡ before.taken → Rose before.take_faults now.take_faults → AsksFor 1 before now
 asks_failed before now taken rose = record { given = 0; failed = 1; all = refl; taken = taken; faults = rose; quiet = λ none. absurd (omega (arith, none)) }
 
-pub take_fails : (before now : PlaceCounts) (trouble : Trouble) → now.taken ≡ before.taken → HasTakeCause before now trouble → trouble ≡ Fail Failed → AsksFor 1 before now
-take_fails before now trouble taken cause is = asks_failed before now taken (subst (HasTakeCause before now) is cause)
-
-pub take_garbles : (before now : PlaceCounts) (trouble : Trouble) → now.taken ≡ before.taken → HasTakeCause before now trouble → trouble ≡ Fail Garbled → AsksFor 1 before now
-take_garbles before now trouble taken cause is = asks_failed before now taken (subst (HasTakeCause before now) is cause)
-
 -- memory was refused
 pub few_none : (most : ℕ) (before now : PlaceCounts) → now ≡ before → AsksAtMost most before now
 few_none most before now same = record { calls = 0; few = omega arith; asks = asks_none before now same }
 
-pub take_short : (before now : PlaceCounts) (trouble : Trouble) → HasTakeCause before now trouble → trouble ≡ Fail Memory → AsksAtMost 1 before now
-take_short before now trouble cause is = few_none 1 before now (subst (HasTakeCause before now) is cause)
-
 -- exactly so many times is at most so many
 pub few_asked : (calls : ℕ) (before now : PlaceCounts) → AsksFor calls before now → AsksAtMost calls before now
 few_asked calls before now asks = record { calls = calls; few = omega arith; asks = asks }
-
--- a source that was taken and then asked for its size: it is open, or was put back
-asked_back : (before mid now : PlaceCounts) → mid ≡ counts_taken before → PutsOneBack mid now → AsksFor 1 before now
-asked_back before mid now took put =
-    asks_given before now (ap (λ (c : PlaceCounts). c.taken) put.1 ∙ ap (λ (c : PlaceCounts). c.taken) took)
-    (ap (λ (c : PlaceCounts). c.take_faults) put.1 ∙ ap (λ (c : PlaceCounts). c.take_faults) took)
-
-pub asked_once : {S E : Type 0} (r : Result (Option S) E) (list_of : S → Option (List Row)) (size_of held_of version_of : S → ℕ) (before mid now : PlaceCounts) (one : Option (List Row))
-    (stated : Option ℕ)
-    → mid ≡ counts_taken before
-    → IfOk r (λ found. MatchOption found (TroubleAt mid now × PutsOneBack mid now) (λ taken. (now ≡ mid) × (list_of taken ≡ one) × IfSome one (λ rows. size_of taken ≡ length rows)
-    × IsAtVersion stated (held_of taken) (version_of taken)))
-    → OnOk r (AsksFor 1 before now)
-asked_once (Ok None) list_of size_of held_of version_of before mid now one stated took found = asked_back before mid now took found.1
-asked_once (Ok (Some taken)) list_of size_of held_of version_of before mid now one stated took found =
-    asks_given before now (ap (λ (c : PlaceCounts). c.taken) (found.0 ∙ took)) (ap (λ (c : PlaceCounts). c.take_faults) (found.0 ∙ took))
-asked_once (Err e) list_of size_of held_of version_of before mid now one stated took found = tt
-
-pub asked_few : {A E : Type 0} (r : Result A E) (before mid now : PlaceCounts) → mid ≡ counts_taken before → OnErr r (PutsOneBack mid now) → OnErr r (AsksAtMost 1 before now)
-asked_few (Ok x) before mid now took put = tt
-asked_few (Err e) before mid now took put = few_asked 1 before now (asked_back before mid now took put)
 
 -- calls, and then further ones
 pub asks_then : (m n calls : ℕ) (before mid now : PlaceCounts) → AsksFor m before mid → AsksFor n mid now → calls ≡ m + n → AsksFor calls before now
@@ -118,20 +84,6 @@ here_alone R none here text before now is elsewhere one place =
 pub asks_here : (here text : List ℕ) (before now : Counted) → here ≡ text → SameElsewhere text before now → AsksFor 1 (before text) (now text) → (place : List ℕ)
     → AsksFor (one_at here place) (before place) (now place)
 asks_here here text before now is elsewhere one = here_alone AsksFor asks_none here text before now is elsewhere one
-
-pub few_here : (here text : List ℕ) (before now : Counted) → here ≡ text → SameElsewhere text before now → AsksAtMost 1 (before text) (now text) → (place : List ℕ)
-    → AsksAtMost (one_at here place) (before place) (now place)
-few_here here text before now is elsewhere one = here_alone AsksAtMost (few_none 0) here text before now is elsewhere one
-
--- the same of an entry that is wanted or isn't
-pub asks_wanted : (wanted : Bool) (n : ℕ) (before now : PlaceCounts) → wanted ≡ true → AsksFor n before now → AsksFor (if wanted then n else 0) before now
-asks_wanted wanted n before now is asks = subst (λ b. AsksFor (if b then n else 0) before now) (sym is) asks
-
-pub few_wanted : (wanted : Bool) (n : ℕ) (before now : PlaceCounts) → wanted ≡ true → AsksAtMost n before now → AsksAtMost (if wanted then n else 0) before now
-few_wanted wanted n before now is asks = subst (λ b. AsksAtMost (if b then n else 0) before now) (sym is) asks
-
-pub asks_passed : (wanted : Bool) (n : ℕ) (at : PlaceCounts) → wanted ≡ false → AsksFor (if wanted then n else 0) at at
-asks_passed wanted n at is = subst (λ b. AsksFor (if b then n else 0) at at) (sym is) (asks_none at at refl)
 
 no_marks : (catalog : List Entry) (place : List ℕ) → marked_at catalog [] place ≡ 0
 no_marks [] place = refl

@@ -1,5 +1,5 @@
 -- What became of the sources of the first entries of a catalog, with one more.
-use Rattle.std.proofs.Common.{◌≡◌, ◌⊎◌, ℕ, suc, ◌+◌, ◌<◌, ◌≤◌, Bool, true, false, cond, nat_le, List, [], ◌∷◌, ◌++◌, All, length, length-append, slice_index_or, inl, inr, slice_get, MatchOption, Option, None, Some, Result, Ok, Err, IfOk, IfSome, OnOk, OnErr, refl, sym, ap, ◌∙◌, subst, arith}
+use Rattle.std.proofs.Common.{◌≡◌, ◌⊎◌, ℕ, suc, ◌+◌, ◌<◌, ◌≤◌, Bool, true, false, cond, nat_le, List, [], ◌∷◌, ◌++◌, All, length, length-append, slice_index_or, inl, inr, slice_get, MatchOption, Option, None, Some, IfSome, refl, sym, ap, ◌∙◌, subst, arith}
 use Rattle.std.proofs.lemmas.List.{get_or_append_left, get_or_past, get_or_push}
 use Rattle.std.proofs.lemmas.Bool.{cases_lt, leb-true}
 use Rattle.std.proofs.lemmas.List.Elements.{All-push, All-from_recursion, All-weaker}
@@ -7,14 +7,13 @@ use Rattle.std.proofs.lemmas.Option.{get_or_from_slice_get, same_Some}
 use Rattle.std.specs.Prelude.{if◌then◌else◌}
 use Rattle.std.specs.Str.{bytes_eq}
 use Rattle.ranked_list.specs.declared.row.Row.{Row}
-use Rattle.source_api.specs.declared.ledger.PlaceCounts.{PlaceCounts}
 use Rattle.source_api.specs.Places.{SameElsewhere, counts_taken}
 use Rattle.catalog_text.specs.Catalog.{Listed as Entry}
 use Rattle.catalog_open.specs.declared.opened.Opening.{Opening}
 use Rattle.catalog_open.specs.declared.opened.Opening.TheVariants.{Closed, Open}
 use Rattle.catalog_open.specs.Entries.{no_entry, entry_at, opening_at, entry_told}
-use Rattle.catalog_open.specs.Openings.{Counted, Used, Moves, MovesAt, PutsOneBack, TakesNone, KeepsOthers, TroubleAt, one_at, standing, Sources, run_count, IsToldAs, IsAtVersion, IsSource, IsOpening, IsNumbered, AreOpened, IsKnownAt}
-use Rattle.catalog_open.proofs.Moving.{at_place, moves_nothing, moves_on, moves_then, moves_here, moves_at, moves_taken, took_back, trouble_on, trouble_from, keeps_then, keeps_here}
+use Rattle.catalog_open.specs.Openings.{Counted, Used, Moves, MovesAt, TakesNone, KeepsOthers, TroubleAt, one_at, standing, Sources, run_count, IsToldAs, IsAtVersion, IsSource, IsOpening, IsNumbered, AreOpened, IsKnownAt}
+use Rattle.catalog_open.proofs.Moving.{at_place, moves_nothing, moves_on, moves_then, moves_here, moves_at, moves_taken, trouble_on, trouble_from, keeps_then, keeps_here}
 use Rattle.limits.specs.declared.TheConstants.{MAX_OBJECTS}
 
 -- nothing is open yet
@@ -277,17 +276,6 @@ known_more catalog before now places same more place text on inside at known is 
     subst (All (IsKnownAt catalog now)) (sym (put ∙ ap (λ ps. ps ++ place ∷ []) is))
     (All-push (IsKnownAt catalog now) places place (known_on catalog before now places on all) (record { within = inside; known = subst (λ t. now t ≡ true) (sym at) known }))
 
--- a source that isn't wanted is passed, unless memory was refused
-pub opened_passed : {A E : Type 0} (r : Result A E) (lists : List ℕ → Option (List Row)) (versions : List ℕ → Option ℕ) (catalog : List Entry) (Wanted : ℕ
-    → Type 0) (before now : Counted) (place : ℕ) (os os_now : List Opening) (told : List (Option (List Row))) (held places places_now counts counts_now : List ℕ)
-    → OnOk r (os_now ≡ os ++ Closed ∷ []) → OnErr r (os_now ≡ os) → places_now ≡ places → counts_now ≡ counts → length os ≡ place → (Wanted place → ⊥)
-    → AreOpened lists versions catalog Wanted before now os (sources_of told held places counts) → AreOpened lists versions catalog Wanted before now os_now (sources_of told held places_now counts_now)
-opened_passed (Ok x) lists versions catalog Wanted before now place os os_now told held places places_now counts counts_now ok err p c long un are =
-    opened_as lists versions catalog Wanted before now (os ++ Closed ∷ []) os_now told told held held places places_now counts counts_now ok refl refl p c
-    (opened_closed lists versions catalog Wanted before now os (sources_of told held places counts) place are long (λ wanted. absurd (un wanted)))
-opened_passed (Err e) lists versions catalog Wanted before now place os os_now told held places places_now counts counts_now ok err p c long un are =
-    opened_as lists versions catalog Wanted before now os os_now told told held held places places_now counts counts_now err refl refl p c are
-
 -- lists with one more
 pub one_longer : {X : Type 0} (xs same more : List X) (x : X) (n : ℕ) → same ≡ xs → more ≡ same ++ x ∷ [] → length xs ≡ n → length more ≡ n + 1
 one_longer {X} xs same more x n is put long =
@@ -305,41 +293,7 @@ pub known_same : (catalog : List Entry) (before now : List ℕ → Bool) (places
     → same ≡ places → All (IsKnownAt catalog before) places → All (IsKnownAt catalog now) same
 known_same catalog before now places same on is all = subst (All (IsKnownAt catalog now)) (sym is) (known_on catalog before now places on all)
 
--- one source more was passed, unless memory was refused
-pub passed_next : {A E : Type 0} (r : Result A E) (os os_now : List Opening) (place : ℕ) → OnOk r (os_now ≡ os ++ Closed ∷ []) → length os ≡ place
-    → OnOk r (length os_now ≡ place + 1)
-passed_next (Ok x) os os_now place put long = one_longer os os os_now Closed place refl put long
-passed_next (Err e) os os_now place put long = tt
-
--- a source's version is the one at hand, and the stated one
-pub at_version : (stated : Option ℕ) (held version : ℕ) → version ≡ held → IfSome stated (λ states. held ≡ states) → IsAtVersion stated held version
-at_version stated held version is states =
-    record { at_hand = sym is; stated = subst (λ v. IfSome stated (λ s. v ≡ s)) (sym is) states }
-
--- and the told one, where the source states that
-at_told : (told stated : Option ℕ) (held version : ℕ) → IfSome told (λ t. stated ≡ Some t) → IsAtVersion stated held version → IsAtVersion told held version
-at_told None stated held version states is = record { at_hand = is.at_hand; stated = tt }
-at_told (Some t) stated held version states is =
-    record { at_hand = is.at_hand; stated = subst (λ o. IfSome o (λ s. version ≡ s)) states is.stated }
-
-told_as : (told one tells : Option (List Row)) (size : ℕ) → IfSome told (λ rows. one ≡ Some rows) → tells ≡ one → IfSome one (λ rows. size ≡ length rows)
+pub told_as : (told one tells : Option (List Row)) (size : ℕ) → IfSome told (λ rows. one ≡ Some rows) → tells ≡ one → IfSome one (λ rows. size ≡ length rows)
     → IsToldAs told tells size
 told_as None one tells size list same stated = tt
 told_as (Some rows) one tells size list same stated = (same ∙ list, subst (λ o. IfSome o (λ rows. size ≡ length rows)) list stated)
-
--- a source that was taken, and asked for its size
-pub asked : {S E : Type 0} (r : Result (Option S) E) (list_of : S → Option (List Row)) (size_of held_of version_of : S → ℕ) (before mid now : PlaceCounts) (Known : Type 0)
-    (told one : Option (List Row)) (version stated : Option ℕ)
-    → MovesAt before mid → mid ≡ counts_taken before → Known → IfSome told (λ rows. one ≡ Some rows) → IfSome version (λ v. stated ≡ Some v)
-    → IfOk r (λ found. MatchOption found (TroubleAt mid now × PutsOneBack mid now) (λ taken. (now ≡ mid) × (list_of taken ≡ one) × IfSome one (λ rows. size_of taken ≡ length rows)
-    × IsAtVersion stated (held_of taken) (version_of taken)))
-    → IfOk r (λ found. MatchOption found (TroubleAt before now × TakesNone before now) (λ taken. Known × IsToldAs told (list_of taken) (size_of taken)
-    × IsAtVersion version (held_of taken) (version_of taken) × (now ≡ counts_taken before)))
-asked (Ok None) list_of size_of held_of version_of before mid now Known told one version stated moves took known list at found = (trouble_from before mid now moves found.0, took_back before mid now took found.1)
-asked (Ok (Some taken)) list_of size_of held_of version_of before mid now Known told one version stated moves took known list at found = (known, told_as told one (list_of taken) (size_of taken) list found.1 found.2, at_told version stated (held_of taken) (version_of taken) at found.3, found.0 ∙ took)
-asked (Err e) list_of size_of held_of version_of before mid now Known told one version stated moves took known list at found = tt
-
--- memory was refused once a source was taken
-pub asked_short : {A E : Type 0} (r : Result A E) (before mid now : PlaceCounts) → mid ≡ counts_taken before → OnErr r (PutsOneBack mid now) → OnErr r (TakesNone before now)
-asked_short (Ok x) before mid now took put = tt
-asked_short (Err e) before mid now took put = took_back before mid now took put

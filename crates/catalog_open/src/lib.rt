@@ -10,6 +10,7 @@ mod entries;
 mod opened;
 mod opening;
 mod reading;
+mod taking;
 mod wanted;
 
 pub use admissions::{Admissions, Stage, admit_all};

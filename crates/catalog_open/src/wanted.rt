@@ -1,8 +1,6 @@
 //! Which sources of a catalog the query lines want.
 
-ghost use Rattle.std.specs.Prelude.{◌≡◌, ◌≤◌, ◌<◌, ℕ, List, false, All, IfOk, MatchOption, length, map, Contains, Some, Ok};
-ghost use Rattle.query_text.specs.Reading.{Reads};
-ghost use Rattle.query_admission.specs.Causes.{most_queries};
+ghost use Rattle.std.specs.Prelude.{◌≡◌, ◌<◌, ℕ, List, false, All, IfOk, MatchOption, length, map, Contains, Some};
 ghost use Rattle.query_admission.specs.Admission.{IsReadAs};
 ghost use Rattle.catalog_open.specs.Views.{entry_named};
 ghost use Rattle.catalog_open.specs.Wanted.{AreMarked, AreRead, MarksMore, Wants};
@@ -10,7 +8,7 @@ ghost use Rattle.catalog_open.specs.Wanted.{AreMarked, AreRead, MarksMore, Wants
 use super::Memory;
 use catalog_text::Catalog;
 use query_admission::ReadLine;
-use query_text::{Names, Query};
+use query_text::Names;
 use std::alloc::Global;
 
 /// Marks the sources of the catalog that lines want which were read: those of the lists that a line names which no cause refuses before
@@ -29,7 +27,7 @@ pub fn mark_wanted(alloc: Global, catalog: &Catalog, read: &[ReadLine]) -> Resul
     Ok(marks)
 }
 
-/// Marks the sources that a line wants beside those that are marked.
+/// Marks the sources that a line wants beside those that are marked: those of its lists, where the catalog has all of them.
 fn mark_line(
     alloc: Global,
     catalog: &Catalog,
@@ -41,24 +39,9 @@ fn mark_line(
     ensures marks { (number : ℕ) → (bytes : List ℕ) → IsReadAs number bytes line.now
         → IfOk result (λ _. MarksMore (Wants catalog.now number bytes) marks.old.items marks.new.items) }
 {
-    match line {
-        ReadLine::Query(query) => mark_query(alloc, catalog, query, marks),
-        ReadLine::Refused(_) => Ok(()),
-    }
-}
-
-/// Marks the sources of the lists of a query beside those that are marked, where the catalog has all of them.
-fn mark_query(
-    alloc: Global,
-    catalog: &Catalog,
-    query: &Query,
-    marks: &mut Vec<bool>,
-) -> Result<(), Memory>
-    requires { length marks.old.items ≡ length catalog.now }
-    ensures many { length marks.new.items ≡ length catalog.now }
-    ensures marks { (number : ℕ) → (bytes : List ℕ) → number ≤ most_queries → Reads bytes (Ok query.now)
-        → IfOk result (λ _. MarksMore (Wants catalog.now number bytes) marks.old.items marks.new.items) }
-{
+    let ReadLine::Query(query) = line else {
+        return Ok(());
+    };
     let found = places_of(alloc, catalog, &query.names)?;
     let Some(places) = found else {
         return Ok(());

@@ -138,7 +138,7 @@ fn open_and_run<W: Threads + Wait + Sync, H: Shelf>(
         let_lines_go(read);
         return Err(Memory);
     };
-    let opening = open_wanted(alloc, shelf, catalog, &marks, opened, slots);
+    let opening = open_wanted(rt, alloc, shelf, catalog, &marks, opened, slots);
     drop(marks);
     match opening {
         Ok(()) => run_opened(rt, alloc, catalog, opened, slots, read, settings),

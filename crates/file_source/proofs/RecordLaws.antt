@@ -1,9 +1,10 @@
 -- Records of a list file and the rows among them.
-use Rattle.std.proofs.Common.{◌≡◌, ◌<◌, ◌≤◌, ℕ, zero, suc, Bool, true, false, cond, List, [], ◌∷◌, ◌++◌, length, map, take, drop, get_or, Option, Some, None, refl, sym, ap, ◌∙◌, arith}
+use Rattle.std.proofs.Common.{◌≡◌, ◌<◌, ◌≤◌, ℕ, zero, suc, ◌+◌, Bool, true, false, cond, List, [], ◌∷◌, ◌++◌, length, map, take, drop, get_or, Option, Some, None, refl, sym, ap, ◌∙◌, arith}
 use Rattle.std.specs.Prelude.{IfSome}
 use Rattle.std.specs.Option.{is_none}
-use Rattle.std.specs.List.{Contains, list_any}
-use Rattle.std.proofs.lemmas.List.{take-map, drop-map, length-map}
+use Rattle.std.specs.List.{Contains, list_any, slice_get}
+use Rattle.std.proofs.lemmas.List.{take-map, take_more, drop-map, length-map}
+use Rattle.std.proofs.lemmas.Option.{get_or_from_slice_get, slice_get_within}
 use Rattle.ranked_list.specs.declared.row.Row.{Row}
 use Rattle.source_api.specs.Told.{IsPage, IsGrade, first_grade, each_once, told_of}
 use Rattle.source_api.proofs.ToldLaws.{told_page, told_grade, first_grade_push}
@@ -55,6 +56,14 @@ pub grade_push : (records : List (Option Row)) (last : Option Row) (object : ℕ
     → first_grade (rows_among (records ++ last ∷ [])) object ≡ kept_record (first_grade (rows_among records) object) last object
 grade_push records None object = ap (λ r. first_grade r object) (among_push_none records)
 grade_push records (Some row) object = ap (λ r. first_grade r object) (among_push records row) ∙ first_grade_push (rows_among records) row object
+
+-- the grades of one record more
+pub grade_next : (records : List (Option Row)) (i : ℕ) (row : Option Row) (object : ℕ) (kept now : Option ℕ)
+    → kept ≡ first_grade (rows_among (take i records)) object → now ≡ kept_record kept row object → slice_get records i ≡ Some row → now ≡ first_grade (rows_among (take (i + 1) records)) object
+grade_next records i row object kept now so_far is found =
+    let next : take (i + 1) records ≡ take i records ++ row ∷ [] =
+    take_more records i None (slice_get_within records i row found) ∙ ap (λ r. take i records ++ r ∷ []) (get_or_from_slice_get records i row None found) in
+    is ∙ (ap (λ k. kept_record k row object) so_far ∙ (sym (grade_push (take i records) row object) ∙ ap (λ r. first_grade (rows_among r) object) (sym next)))
 
 -- ---- what is told
 

@@ -7,11 +7,8 @@ use Rattle.std.proofs.lemmas.List.{map-append}
 use Rattle.std.proofs.lemmas.List.Folds.{list_any-append}
 use Rattle.ranked_list.specs.declared.row.Row.{Row}
 use Rattle.file_source.specs.declared.list_file.Reading.{Reading}
-use Rattle.source_api.specs.Told.{first_grade}
-use Rattle.file_source.specs.ListFile.{rows_among, row_of, is_header, without_header}
-use Rattle.file_source.specs.Filed.{IsIndexed}
-use Rattle.file_source.specs.Taking.{IsTaken, Puts, has_some, kept_record}
-use Rattle.file_source.proofs.RecordLaws.{grade_push}
+use Rattle.file_source.specs.ListFile.{row_of, is_header, without_header}
+use Rattle.file_source.specs.Taking.{IsTaken, Puts, has_some}
 
 -- the same reading, of which a record was read
 abbrev pub begun : Reading → Reading
@@ -22,12 +19,10 @@ or_is_none true row = refl
 or_is_none false None = refl
 or_is_none false (Some row) = refl
 
-indexed_push : (before now : Reading) (row : Option Row) → IsIndexed before.records.items before.grades before.broken → Puts (begun before) now row
-    → IsIndexed now.records.items now.grades now.broken
-indexed_push before now row h p = record {
-  grades = λ object. p.grades object ∙ (ap (λ kept. kept_record kept row object) (h.grades object) ∙ (sym (grade_push before.records.items row object) ∙ ap (λ rs. first_grade (rows_among rs) object) (sym p.rows)));
-  broken = p.broken ∙ (ap (λ b. b || is_none row) h.broken ∙ (or_is_none (list_any is_none before.records.items) row ∙ (sym (list_any-append is_none before.records.items (row ∷ [])) ∙ ap (list_any is_none) (sym p.rows))));
-}
+broken_push : (before now : Reading) (row : Option Row) → before.broken ≡ list_any is_none before.records.items → Puts (begun before) now row
+    → now.broken ≡ list_any is_none now.records.items
+broken_push before now row h p =
+    p.broken ∙ (ap (λ b. b || is_none row) h ∙ (or_is_none (list_any is_none before.records.items) row ∙ (sym (list_any-append is_none before.records.items (row ∷ [])) ∙ ap (list_any is_none) (sym p.rows))))
 
 has_more : (records : List (List (List ℕ))) (fields : List (List ℕ)) → has_some (records ++ fields ∷ []) ≡ true
 has_more [] fields = refl
@@ -39,7 +34,7 @@ pub takes_header : (before : Reading) (records : List (List (List ℕ))) (fields
 takes_header before [] fields h new header = record {
   started = refl;
   rows = h.rows ∙ ap (map row_of) (ap (λ b. cond b [] (fields ∷ [])) (sym header));
-  indexed = h.indexed;
+  broken = h.broken;
 }
 takes_header before (first ∷ records) fields h new header = absurd (both_ways before.started new h.started)
 
@@ -60,7 +55,7 @@ pub takes_record : (before now : Reading) (records : List (List (List ℕ))) (fi
 takes_record before now records fields h p other = record {
   started = p.started ∙ sym (has_more records fields);
   rows = p.rows ∙ (ap (λ rs. rs ++ row_of fields ∷ []) h.rows ∙ sym (pushed records fields (λ none. other (h.started ∙ none))));
-  indexed = indexed_push before now (row_of fields) h.indexed p;
+  broken = broken_push before now (row_of fields) h.broken p;
 }
 
 -- what isn't skipped is no header at the beginning

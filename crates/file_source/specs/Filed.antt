@@ -1,5 +1,5 @@
 -- What a source over a list file is.
-use Rattle.std.specs.Prelude.{◌≡◌, ℕ, Bool, List, Option, nat_eq}
+use Rattle.std.specs.Prelude.{◌≡◌, ℕ, Bool, List, Option, IfSome, nat_eq}
 use Rattle.std.specs.List.{list_any}
 use Rattle.std.specs.Option.{is_none}
 use Rattle.std.specs.declared.hash.FoldHasher.{FoldHasher}
@@ -15,7 +15,7 @@ pub record Filed : Type 0 where
   pub records : List (Option Row)
   pub counts : Counts
 
--- the grades by object are those of the first rows, and it is known whether some record is no row
-pub record IsIndexed (records : List (Option Row)) (index : HashMap ℕ ℕ (BuildHasherDefault FoldHasher)) (some_broken : Bool) : Type 0 where
-  pub grades : (object : ℕ) → get nat_eq index object ≡ first_grade (rows_among records) object
+-- the grades by object, once they are kept, are those of the first rows, and it is known whether some record is no row
+pub record IsIndexed (records : List (Option Row)) (index : Option (HashMap ℕ ℕ (BuildHasherDefault FoldHasher))) (some_broken : Bool) : Type 0 where
+  pub grades : IfSome index (λ kept. (object : ℕ) → get nat_eq kept object ≡ first_grade (rows_among records) object)
   pub broken : some_broken ≡ list_any is_none records

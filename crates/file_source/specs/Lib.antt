@@ -5,3 +5,4 @@ pub mod Filed
 pub mod ListFile
 pub mod Shelved
 pub mod Taking
+pub mod Unread

@@ -8,7 +8,7 @@ ghost use Rattle.source_api.specs.Places.{counts_at, is_known, IsTaking, SameEls
 ghost use Rattle.file_source.specs.ListFile.{list_records};
 ghost use Rattle.file_source.specs.Shelved.{ReadsList, IsFileTrouble};
 
-use super::FileSource;
+use super::ListSource;
 use super::file_tree::FileTree;
 use limits::MAX_LIST_TEXT;
 use source_api::{FailKind, Ledger, Shelf, Trouble};
@@ -54,7 +54,7 @@ impl<'a, F: FileTree> Shelf for FileShelf<'a, F> {
     ghost use Rattle.source_api.specs.Places.{counts_at, is_known};
     ghost use Rattle.file_source.specs.Shelved.{rows_at};
 
-    type Item = FileSource;
+    type Item = ListSource;
 
     ghost texts = { λ s. F.contents s.files };
 
@@ -73,14 +73,14 @@ impl<'a, F: FileTree> Shelf for FileShelf<'a, F> {
         }
     }
 
-    fn take(&mut self, alloc: Global, place: &str) -> Result<FileSource, Trouble> {
+    fn take(&mut self, alloc: Global, place: &str) -> Result<ListSource, Trouble> {
         match source_at(alloc, self.files, place) {
             Ok(source) => give(&mut self.ledger, alloc, place, source),
             Err(trouble) => Err(count_take(&mut self.ledger, alloc, place, trouble)),
         }
     }
 
-    fn put_back(&mut self, place: &str, item: FileSource) {
+    fn put_back(&mut self, place: &str, item: ListSource) {
         self.ledger.add_source(place, item.counts());
     }
 }
@@ -90,8 +90,8 @@ fn give(
     ledger: &mut Ledger,
     alloc: Global,
     place: &str,
-    source: FileSource,
-) -> Result<FileSource, Trouble>
+    source: ListSource,
+) -> Result<ListSource, Trouble>
     ensures taken { OnOk result (IsTaking ledger.old ledger.new place.now) }
     ensures source { IfOk result (λ given. given ≡ source) }
     ensures untaken { OnErr result (ledger.new ≡ ledger.old) }
@@ -167,17 +167,13 @@ fn read_list<I: Intake>(alloc: Global, input: &mut I) -> Result<Vec<u8>, Trouble
 }
 
 /// The source over all bytes of a file.
-fn source_at<F: FileTree>(alloc: Global, files: &F, place: &str) -> Result<FileSource, Trouble>
+fn source_at<F: FileTree>(alloc: Global, files: &F, place: &str) -> Result<ListSource, Trouble>
     ensures fresh { IfOk result (λ source. source.counts ≡ no_counts) }
     ensures told { IfOk result (λ source. IfSome (F.contents files.now place.now) (λ told. source.records ≡ list_records told)) }
     ensures sound { IfErr result IsFileTrouble }
 {
-    let text = match read_file(alloc, files, place) {
-        Ok(text) => text,
-        Err(trouble) => return Err(trouble),
-    };
-    match FileSource::open(alloc, &text) {
-        Ok(source) => Ok(source),
-        Err(_) => Err(Trouble::Fail(FailKind::Memory)),
+    match read_file(alloc, files, place) {
+        Ok(text) => Ok(ListSource::of_text(text)),
+        Err(trouble) => Err(trouble),
     }
 }

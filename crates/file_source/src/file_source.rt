@@ -1,13 +1,13 @@
 //! A source over the bytes of a list file.
 
 ghost use Rattle.std.specs.Prelude.{◌≡◌, ◌≤◌, ◌<◌, ℕ, nat_eq, length, take, drop, map, vec_len, Some, None, Contains, MatchOption, IfOk, IfErr, IfSome, OnOk, OnErr};
-ghost use Rattle.std.specs.HashMap.{get};
 ghost use Rattle.source_api.specs.Counting.{no_counts, NoneFell, TroubleHasCause, CountsAlone, MovedHasCause, GaveNothing, GaveRows, GaveGrade, gave_rows, gave_grade};
 ghost use Rattle.source_api.specs.Told.{IsPage, IsGrade, first_grade};
 ghost use Rattle.file_source.specs.ListFile.{list_records, rows_among, told_records};
 ghost use Rattle.file_source.specs.FileAnswers.{AnswersPage, AnswersGrade, after_page, after_grade};
 
 use super::Memory;
+use super::grades::{grade_among, grades_of};
 use super::list_file::{Reading, read_list};
 use ranked_list::Row;
 use source_api::{Counts, FailKind, Source, Trouble, part_of};
@@ -23,7 +23,8 @@ use std::marker::Model;
 #[derive(Drop)]
 pub struct FileSource {
     records: Vec<Option<Row>>,
-    grades: HashMap<u32, u32>,
+    /// The grades of objects by hash, once one was asked for.
+    grades: Option<HashMap<u32, u32>>,
     broken: bool,
     counts: Counts,
 }
@@ -43,19 +44,18 @@ impl FileSource {
     /// the fields `object` and `grade` is a header. Any other record is a row where it has two fields,
     /// each of 1 to 10 digits with a value up to 4,294,967,295.
     ///
-    /// *Cost*: one pass over the bytes, and a look-up by hash for each record; 12 bytes a record beside the index.
+    /// *Cost*: one pass over the bytes; 12 bytes a record.
     pub fn open(alloc: Global, bytes: &[u8]) -> Result<FileSource, Memory>
         ensures { IfOk result (λ f. f ≡ record { records = list_records bytes.now; counts = no_counts }) }
     {
         let Reading {
             records,
-            grades,
             broken,
             ..
         } = read_list(alloc, bytes)?;
         Ok(FileSource {
             records,
-            grades,
+            grades: None,
             broken,
             counts: Counts::none(),
         })
@@ -66,6 +66,28 @@ impl FileSource {
         ensures { result ≡ self.now.counts }
     {
         self.counts
+    }
+
+    /// Makes the index of grades by object, unless it is there or memory is refused.
+    fn index(&mut self, alloc: Global)
+        ensures { self.new ≡ self.old }
+    {
+        if self.grades.is_some() {
+            return;
+        }
+        if let Ok(grades) = grades_of(alloc, &self.records) {
+            self.grades = Some(grades);
+        }
+    }
+
+    /// The grade of the first row with the object, by the index where it is there.
+    fn find(&self, object: u32) -> Option<u32>
+        ensures { result ≡ first_grade (rows_among self.now.records) object }
+    {
+        match &self.grades {
+            Some(grades) => grades.get(&object).copied(),
+            None => grade_among(&self.records, object),
+        }
     }
 }
 
@@ -117,8 +139,9 @@ impl Source for FileSource {
     }
 
     /// The grade of the first row with the object. Where there is none the answer is garbled if some
-    /// record is no row. It takes no memory.
-    fn grade(&mut self, _: Global, object: u32) -> Result<Option<u32>, Trouble>
+    /// record is no row. The first call makes an index of the objects by hash; where memory is refused for it the records are looked
+    /// through.
+    fn grade(&mut self, alloc: Global, object: u32) -> Result<Option<u32>, Trouble>
         ensures answer { AnswersGrade self.old.records object result }
         ensures after { self.new ≡ after_grade result self.old }
         ensures later { NoneFell self.old.counts self.new.counts }
@@ -130,7 +153,8 @@ impl Source for FileSource {
         ensures moved { IfErr result (MovedHasCause 0 (Some 0)) }
         ensures grade { IfOk result (λ grade. IfSome (told_records self.old.records) (λ rows. IsGrade rows object grade)) }
     {
-        let grade = self.grades.get(&object).copied();
+        self.index(alloc);
+        let grade = self.find(object);
         if grade.is_none() && self.broken {
             self.counts.count_trouble(Trouble::Fail(FailKind::Garbled));
             return Err(Trouble::Fail(FailKind::Garbled));

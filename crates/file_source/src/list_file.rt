@@ -3,17 +3,17 @@
 ghost use Rattle.std.specs.Prelude.{◌≡◌, ◌&&◌, [], not, ℕ, List, nat_eq, option_map, IfOk, OnOk};
 ghost use Rattle.csv.specs.Records.{fields_of};
 ghost use Rattle.file_source.specs.ListFile.{pair_in, row_of_pair, is_header_pair, list_records};
-ghost use Rattle.file_source.specs.Filed.{IsIndexed};
+ghost use Rattle.std.specs.List.{list_any};
+ghost use Rattle.std.specs.Option.{is_none};
 ghost use Rattle.file_source.specs.Taking.{IsTaken, Puts};
 
 use super::Memory;
 use super::numbers::field_number;
 use csv::ByteRecord;
 use csv_records::{TakesRecords, read_records};
+use limits::MAX_OBJECTS;
 use ranked_list::Row;
-use source_api::keep_first;
 use std::alloc::Global;
-use std::collections::HashMap;
 
 /// The records of a list file that have been read so far.
 #[derive(Drop)]
@@ -22,8 +22,6 @@ pub(crate) struct Reading {
     started: bool,
     /// Each record as its row, or None where it is no row.
     pub(crate) records: Vec<Option<Row>>,
-    /// The grade of each object, by its first row.
-    pub(crate) grades: HashMap<u32, u32>,
     /// Whether some record is no row.
     pub(crate) broken: bool,
 }
@@ -31,35 +29,44 @@ pub(crate) struct Reading {
 /// Reads a list file whole.
 pub(crate) fn read_list(alloc: Global, bytes: &[u8]) -> Result<Reading, Memory>
     ensures records { IfOk result (λ r. r.records.items ≡ list_records bytes.now) }
-    ensures indexed { IfOk result (λ r. IsIndexed r.records.items r.grades r.broken) }
+    ensures broken { IfOk result (λ r. r.broken ≡ list_any is_none r.records.items) }
 {
-    let mut reading = Reading::begin(alloc);
+    let mut reading = Reading::begin(alloc, lines_within(bytes))?;
     match read_records(alloc, bytes, &mut reading) {
         Ok(()) => Ok(reading),
         Err(_) => Err(Memory),
     }
 }
 
-impl Reading {
-    fn begin(alloc: Global) -> Reading
-        ensures { IsTaken result [] }
-    {
-        Reading {
-            started: false,
-            records: Vec::new(alloc),
-            grades: HashMap::new(alloc),
-            broken: false,
+/// How many lines end within these bytes, at most as many as a list may have rows. For room alone: no clause depends on it.
+fn lines_within(bytes: &[u8]) -> usize {
+    let mut lines = 0;
+    for byte in bytes {
+        if *byte == b'\n' && lines < MAX_OBJECTS as usize {
+            lines += 1;
         }
+    }
+    lines
+}
+
+impl Reading {
+    /// Nothing was read, and there is room for so many records.
+    fn begin(alloc: Global, room: usize) -> Result<Reading, Memory>
+        ensures { IfOk result (λ r. IsTaken r []) }
+    {
+        let records = Vec::with_capacity(alloc, room)?;
+        Ok(Reading {
+            started: false,
+            records,
+            broken: false,
+        })
     }
 
     /// Puts one more record.
     fn put(&mut self, row: Option<Row>) -> Result<(), Memory>
         ensures { OnOk result (Puts self.old self.new row) }
     {
-        match row {
-            Some(row) => keep_first(&mut self.grades, row)?,
-            None => self.broken = true,
-        }
+        self.broken = self.broken || row.is_none();
         self.records.push(row)?;
         Ok(())
     }

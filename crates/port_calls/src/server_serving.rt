@@ -41,7 +41,7 @@ pub(crate) fn serve_lists<W: Threads + Wait + Sync, H: Shelf, P: Port>(
 {
     let mut opened = Opened::make(alloc);
     let mut slots = Vec::new(alloc);
-    match open_all(alloc, shelf, &catalog, &mut opened, &mut slots) {
+    match open_all(rt, alloc, shelf, &catalog, &mut opened, &mut slots) {
         Ok(entries) => {
             let mut lists = Lists::make(catalog, entries);
             let served = serve_at(rt, alloc, options, &mut lists, &mut slots, port);
@@ -56,7 +56,8 @@ pub(crate) fn serve_lists<W: Threads + Wait + Sync, H: Shelf, P: Port>(
 }
 
 /// Opens the source of each list of a catalog, and tells what becomes of the lists.
-fn open_all<H: Shelf>(
+fn open_all<W: Threads + Sync, H: Shelf>(
+    rt: &W,
     alloc: Global,
     shelf: &mut H,
     catalog: &Catalog,
@@ -86,7 +87,7 @@ fn open_all<H: Shelf>(
     let Ok(marks) = mark_every(alloc, catalog) else {
         return Err(Memory);
     };
-    let opening = open_wanted(alloc, shelf, catalog, &marks, opened, slots);
+    let opening = open_wanted(rt, alloc, shelf, catalog, &marks, opened, slots);
     drop(marks);
     match opening {
         Ok(()) => entries_of(alloc, &opened.openings),

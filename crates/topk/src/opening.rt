@@ -10,7 +10,7 @@ ghost use Rattle.catalog_text.specs.Places.{is_remote};
 use super::dial_maker::DialMaker;
 use super::place_source::PlaceSource;
 use catalog_text::{Address, Location, location_of};
-use file_source::{FileSource, FileTree, read_file};
+use file_source::{FileTree, ListSource, read_file};
 use http_source::HttpSource;
 use source_api::{FailKind, Trouble};
 use std::alloc::{AllocError, Global};
@@ -62,13 +62,9 @@ fn open_file<F: FileTree, D: Dial + Drop>(
     ensures source { IfOk result (IsOverFile (F.contents files.now) place.now) }
     ensures sound { IfErr result IsFileTrouble }
 {
-    let text = match read_file(alloc, files, place) {
-        Ok(text) => text,
-        Err(trouble) => return Err(trouble),
-    };
-    match FileSource::open(alloc, &text) {
-        Ok(source) => Ok(PlaceSource::File(source)),
-        Err(_) => Err(Trouble::Fail(FailKind::Memory)),
+    match read_file(alloc, files, place) {
+        Ok(text) => Ok(PlaceSource::File(ListSource::of_text(text))),
+        Err(trouble) => Err(trouble),
     }
 }
 

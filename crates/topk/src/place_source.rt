@@ -3,7 +3,7 @@
 ghost use Rattle.std.specs.Prelude.{◌≡◌};
 ghost use Rattle.topk.specs.Sources.{counts_of};
 
-use file_source::FileSource;
+use file_source::ListSource;
 use http_source::HttpSource;
 use ranked_list::Row;
 use source_api::{Counts, Source, Trouble};
@@ -15,8 +15,8 @@ use tk_io::Dial;
 /// It tells what the one that it is tells.
 #[derive(Drop)]
 pub enum PlaceSource<D: Dial + Drop> {
-    /// A list file that was read whole.
-    File(FileSource),
+    /// A list file.
+    File(ListSource),
     /// A list that is asked for over a dial.
     Http(HttpSource<D>),
 }
@@ -69,6 +69,13 @@ impl<D: Dial + Send + Drop> Source for PlaceSource<D> {
         match self {
             PlaceSource::File(source) => source.version(),
             PlaceSource::Http(source) => source.at_hand(),
+        }
+    }
+
+    fn is_far(&self) -> bool {
+        match self {
+            PlaceSource::File(_) => false,
+            PlaceSource::Http(_) => true,
         }
     }
 
