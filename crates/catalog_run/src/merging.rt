@@ -102,21 +102,14 @@ fn next_outcome(
 {
     match stage {
         Stage::Refused { refusal, query } => Ok(line_refused(alloc, refusal, query)),
-        Stage::Ready => next_ended(readies, endings),
+        Stage::Ready => {
+            let Some(ended) = endings.pop() else {
+                unreachable!();
+            };
+            let Some(ready) = readies.pop() else {
+                unreachable!();
+            };
+            line_ended(ready, ended)
+        }
     }
-}
-
-/// The outcome of a line whose query, and how it ended, are the last ones.
-fn next_ended(readies: &mut Vec<Ready>, endings: &mut Vec<Ended>) -> Result<LineOutcome, Memory>
-    requires readies { 0 < length readies.old.items }
-    requires endings { 0 < length endings.old.items }
-    ensures { IfOk result (Nexts stage.Ready readies.old.items readies.new.items endings.old.items endings.new.items) }
-{
-    let Some(ended) = endings.pop() else {
-        unreachable!();
-    };
-    let Some(ready) = readies.pop() else {
-        unreachable!();
-    };
-    line_ended(ready, ended)
 }

@@ -65,7 +65,10 @@ fn put_group<W: Threads + Sync, P: Put>(
     ensures { Puts (P.at out.old) (P.at out.new) (outcomes_text first outcomes.now) }
 {
     let texts = texts_of(rt, alloc, first, outcomes, threads);
-    put_lines(out, first, outcomes, &texts);
+    for place in 0..outcomes.len() {
+        let text = made_at(&texts, place);
+        put_line(out, first + place as u64, &outcomes[place], text);
+    }
     drop(texts);
 }
 
@@ -145,20 +148,6 @@ fn make_texts<W: Threads + Sync>(
             ensures { (line : LineOutcome) → slice_get outcomes.entry.now place ≡ Some line → IfSome text.exit.now (λ made. made ≡ line_text (first + place) line) }
         { text.make(alloc, first + place as u64, &outcomes[place]) },
     );
-}
-
-/// Puts the texts of the outcomes of lines, of which the first has this number, behind the bytes that wait: of those that were made what was made.
-fn put_lines<P: Put>(out: &mut P, first: u64, outcomes: &[LineOutcome], texts: &[MadeText])
-    requires written { All CanBeWritten outcomes.now }
-    requires numbers { first + length outcomes.now < 2 ^ 64 }
-    requires texts { AreTexts first outcomes.now texts.now }
-    ensures { Puts (P.at out.old) (P.at out.new) (outcomes_text first outcomes.now) }
-{
-    for place in 0..outcomes.len() {
-        let line = &outcomes[place];
-        let text = made_at(texts, place);
-        put_line(out, first + place as u64, line, text);
-    }
 }
 
 /// The text at a place, where one was made.

@@ -45,30 +45,13 @@ pub fn node<H: Shelf, K: Sink, P: Port>(
         (outside_of input (output_as K.held K.faults out.new) (shelf_as H.texts H.lists H.versions H.at shelf.new)))
         (ports_of P.links P.closed P.faults (port.old, port.new)) result }
 {
-    match shelf.text(alloc, options.catalog.as_str()) {
-        Ok(text) => node_over(alloc, text, options, shelf, out, port),
-        Err(Trouble::Fail(FailKind::Memory)) => Status::Memory,
-        Err(Trouble::Fail(FailKind::Failed)) => Status::OpenFault,
-        Err(Trouble::Fail(FailKind::Garbled)) => Status::OpenFault,
+    let text = match shelf.text(alloc, options.catalog.as_str()) {
+        Ok(text) => text,
+        Err(Trouble::Fail(FailKind::Memory)) => return Status::Memory,
+        Err(Trouble::Fail(FailKind::Failed)) => return Status::OpenFault,
+        Err(Trouble::Fail(FailKind::Garbled)) => return Status::OpenFault,
         Err(Trouble::Moved { .. }) => unreachable!(),
-    }
-}
-
-/// Serves one list of a catalog at a port, by the catalog's text.
-fn node_over<H: Shelf, K: Sink, P: Port>(
-    alloc: Global,
-    text: Vec<u8>,
-    options: &NodeOptions,
-    shelf: &mut H,
-    out: &mut K,
-    port: &mut P,
-) -> Status
-    ensures writes { K.faults out.old ≤ K.faults out.new }
-    ensures ends { (words : List (List ℕ)) (input : Input) → EndsOverCatalog options.now text.items
-        (call_at words (outside_of input (output_as K.held K.faults out.old) (shelf_as H.texts H.lists H.versions H.at shelf.old))
-        (outside_of input (output_as K.held K.faults out.new) (shelf_as H.texts H.lists H.versions H.at shelf.new)))
-        (ports_of P.links P.closed P.faults (port.old, port.new)) result }
-{
+    };
     let read = read_catalog(alloc, &text);
     drop(text);
     match read {

@@ -8,7 +8,7 @@ ghost use Rattle.call_ends.specs.Calls.{Input, output_as, shelf_as, outside_of, 
 ghost use Rattle.call_ends.specs.Ends.{Says};
 ghost use Rattle.port_calls.specs.NodeTexts.{served_text};
 ghost use Rattle.port_calls.specs.Ports.{ports_of};
-ghost use Rattle.port_calls.specs.ServeEnds.{EndsServe, ServeEndsOverCatalog, SaysServeEnded};
+ghost use Rattle.port_calls.specs.ServeEnds.{EndsServe, SaysServeEnded};
 
 use super::said::say_served;
 use super::server_serving::serve_lists;
@@ -51,32 +51,13 @@ pub fn serve<W: Threads + Wait + Sync, H: Shelf, K: Sink, P: Port>(
         (outside_of input (output_as K.held K.faults out.new) (shelf_as H.texts H.lists H.versions H.at shelf.new)))
         (ports_of P.links P.closed P.faults (port.old, port.new)) result }
 {
-    match shelf.text(alloc, options.catalog.as_str()) {
-        Ok(text) => serve_over(rt, alloc, text, options, shelf, out, port),
-        Err(Trouble::Fail(FailKind::Memory)) => Status::Memory,
-        Err(Trouble::Fail(FailKind::Failed)) => Status::OpenFault,
-        Err(Trouble::Fail(FailKind::Garbled)) => Status::OpenFault,
+    let text = match shelf.text(alloc, options.catalog.as_str()) {
+        Ok(text) => text,
+        Err(Trouble::Fail(FailKind::Memory)) => return Status::Memory,
+        Err(Trouble::Fail(FailKind::Failed)) => return Status::OpenFault,
+        Err(Trouble::Fail(FailKind::Garbled)) => return Status::OpenFault,
         Err(Trouble::Moved { .. }) => unreachable!(),
-    }
-}
-
-/// Serves queries over the lists of a catalog, by the catalog's text.
-fn serve_over<W: Threads + Wait + Sync, H: Shelf, K: Sink, P: Port>(
-    rt: &W,
-    alloc: Global,
-    text: Vec<u8>,
-    options: &ServeOptions,
-    shelf: &mut H,
-    out: &mut K,
-    port: &mut P,
-) -> Status
-    requires { AreSettings options.now.settings }
-    ensures writes { K.faults out.old ≤ K.faults out.new }
-    ensures ends { (words : List (List ℕ)) (input : Input) → ServeEndsOverCatalog options.now text.items
-        (call_at words (outside_of input (output_as K.held K.faults out.old) (shelf_as H.texts H.lists H.versions H.at shelf.old))
-        (outside_of input (output_as K.held K.faults out.new) (shelf_as H.texts H.lists H.versions H.at shelf.new)))
-        (ports_of P.links P.closed P.faults (port.old, port.new)) result }
-{
+    };
     let read = read_catalog(alloc, &text);
     drop(text);
     match read {

@@ -38,41 +38,15 @@ pub(crate) fn ask<S: Source>(alloc: Global, source: &mut S, asked: Asked) -> Res
         result }
 {
     match asked {
-        Asked::Size => ask_size(alloc, source),
+        Asked::Size => match source.size(alloc) {
+            Ok(count) => Ok(Answer::Count(count)),
+            Err(why) => Err(why),
+        },
         Asked::Page { from, count } => ask_rows(alloc, source, from, count),
-        Asked::Grade { object } => ask_grade(alloc, source, object),
-    }
-}
-
-/// Asks a source how many rows its list has.
-fn ask_size<S: Source>(alloc: Global, source: &mut S) -> Result<Answer, Trouble>
-    ensures list { S.list source.new ≡ S.list source.old }
-    ensures states { S.states source.new ≡ S.states source.old }
-    ensures later { NoneFell (S.counts source.old) (S.counts source.new) }
-    ensures asks { Asks Asked.Size
-        (seen (S.list source.old) (S.counts source.old) (S.calls source.old) (S.at_hand source.old) (S.states source.old))
-        (seen (S.list source.new) (S.counts source.new) (S.calls source.new) (S.at_hand source.new) (S.states source.new))
-        result }
-{
-    match source.size(alloc) {
-        Ok(count) => Ok(Answer::Count(count)),
-        Err(why) => Err(why),
-    }
-}
-
-/// Asks a source for the grade of an object.
-fn ask_grade<S: Source>(alloc: Global, source: &mut S, object: u32) -> Result<Answer, Trouble>
-    ensures list { S.list source.new ≡ S.list source.old }
-    ensures states { S.states source.new ≡ S.states source.old }
-    ensures later { NoneFell (S.counts source.old) (S.counts source.new) }
-    ensures asks { Asks (Asked.Grade object)
-        (seen (S.list source.old) (S.counts source.old) (S.calls source.old) (S.at_hand source.old) (S.states source.old))
-        (seen (S.list source.new) (S.counts source.new) (S.calls source.new) (S.at_hand source.new) (S.states source.new))
-        result }
-{
-    match source.grade(alloc, object) {
-        Ok(grade) => Ok(Answer::Grade(grade)),
-        Err(why) => Err(why),
+        Asked::Grade { object } => match source.grade(alloc, object) {
+            Ok(grade) => Ok(Answer::Grade(grade)),
+            Err(why) => Err(why),
+        },
     }
 }
 
