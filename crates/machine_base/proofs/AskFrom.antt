@@ -19,7 +19,7 @@ from_skips m A objects at object here e =
     ∙ ap (λ found. ask_at found object at (ask_from m A (drop (suc at) objects) (at + 1))) e
     ∙ ap (λ p. ask_from m A (drop p objects) (at + 1)) one
 
-nothing_behind : (objects : List ℕ) (at : ℕ) → length objects ≤ at → drop at objects ≡ []
+pub nothing_behind : (objects : List ℕ) (at : ℕ) → length objects ≤ at → drop at objects ≡ []
 nothing_behind [] zero l = refl
 nothing_behind [] (suc at) l = refl
 nothing_behind (object ∷ objects) zero l = absurd (omega arith)

@@ -63,10 +63,3 @@ none_before (y ∷ xs) (suc p) x apart e = λ c.
       | inl same ↦ head_apart y x xs apart (slice_get_contains xs p x e) same
       | inr there ↦ none_before xs p x (distinct_tail y xs apart) e there
     ]
-
--- what stands at a place stands behind each one before
-pub get_behind : {X : Type 0} (xs : List X) (p at : ℕ) (x : X) → p ≤ at → slice_get xs at ≡ Some x → Contains (drop p xs) x
-get_behind [] p at x l e = absurd (none-some x e)
-get_behind (y ∷ xs) zero at x l e = slice_get_contains (y ∷ xs) at x e
-get_behind (y ∷ xs) (suc p) zero x l e = absurd (omega arith)
-get_behind (y ∷ xs) (suc p) (suc at) x l e = get_behind xs p at x (omega arith) e

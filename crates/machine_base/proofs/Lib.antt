@@ -12,6 +12,7 @@ pub mod Unknown
 pub mod Known
 pub mod Asks
 pub mod Certain
+pub mod FirstUnknown
 mod AskFrom
 mod Begins
 mod RoomTest

@@ -1,5 +1,5 @@
 -- What is certain: accesses that a run makes, however the rest of the table is.
-use Rattle.std.specs.Prelude.{◌≡◌, ◌<◌, ◌≤◌, ℕ, None, List, Contains}
+use Rattle.std.specs.Prelude.{◌≡◌, ◌≤◌, ℕ, Option, Some, None, is_none, List, filter, slice_get, Contains}
 use Rattle.ranked_list.specs.declared.row.Row.{Row}
 use Rattle.ranked_list.specs.declared.need.Need.{Need}
 use Rattle.ranked_list.specs.declared.need.Need.TheVariants.{Row as RowAt, Grade, Done}
@@ -27,13 +27,31 @@ IsOf n list (RowAt other depth) = (other ≡ list) × (1 ≤ depth) × (depth �
 IsOf n list (Grade other object) = other ≡ list
 IsOf n list Done = Unit {0}
 
--- what a machine foresees of a list: a need that is certain, or none
+-- what a machine foresees of a list: a need of it that is certain, or none
 pub record Foresees (run : Run) (t : MachineState) (list : ℕ) (need : Need) : Type 0 where
   pub certain : IsCertain run t need
   pub of : IsOf t.log.count list need
 
--- the grade in this list of one of these objects that no access gave, or none
-abbrev pub IsUnknownOf : List Access → List ℕ → ℕ → Need → Type 0
-IsUnknownOf A objects list (RowAt other depth) = ⊥
-IsUnknownOf A objects list (Grade other object) = (other ≡ list) × Contains objects object × (known_grade A object list ≡ None)
-IsUnknownOf A objects list Done = Unit {0}
+-- those of the objects whose grade in this list no access gave
+abbrev pub unknown_among : List Access → List ℕ → ℕ → List ℕ
+unknown_among A objects list = filter (λ object. is_none (known_grade A object list)) objects
+
+-- the grade of an object in this list, if there is one
+abbrev pub grade_of_some : ℕ → Option ℕ → Need
+grade_of_some list None = Done
+grade_of_some list (Some object) = Grade list object
+
+-- the grade in this list of the first of the objects whose grade there no access gave; none where each is known
+abbrev pub first_unknown : List Access → List ℕ → ℕ → Need
+first_unknown A objects list = grade_of_some list (slice_get (unknown_among A objects list) 0)
+
+-- what is left of a list where a run that asks for these objects needs this: with a row that of the list at the same depth, with a grade
+-- the first that the objects miss in the list, and at the end nothing
+abbrev pub left_beside : Need → List Access → List ℕ → ℕ → Need
+left_beside (RowAt next depth) A objects list = RowAt list depth
+left_beside (Grade next object) A objects list = first_unknown A objects list
+left_beside Done A objects list = Done
+
+-- and so for a machine
+abbrev pub left_of : MachineState → List ℕ → ℕ → Need
+left_of t objects list = left_beside t.need t.log.accesses objects list

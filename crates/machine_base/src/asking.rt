@@ -3,7 +3,7 @@
 ghost use Rattle.std.specs.Prelude.{◌≡◌, ◌<◌, drop, is_none};
 ghost use Rattle.topk_theory.specs.Bounds.{known_grade};
 ghost use Rattle.machine_base.specs.Asking.{next_unknown, ask_from};
-ghost use Rattle.machine_base.specs.Certain.{IsUnknownOf};
+ghost use Rattle.machine_base.specs.Certain.{first_unknown};
 
 use super::object_list::ObjectList;
 use access_log::Transcript;
@@ -41,7 +41,7 @@ fn is_unknown(transcript: &Transcript, object: u32, list: u8) -> bool
     transcript.known(object)[list as usize].is_none()
 }
 
-/// The grade in a list of the first object, from a place on, whose grade there no access gave.
+/// The grade in a list of the first object, from a place on, whose grade there no access gave; nothing where each is known.
 pub fn first_unknown<L: ObjectList + Copy>(
     transcript: &Transcript,
     objects: L,
@@ -49,7 +49,7 @@ pub fn first_unknown<L: ObjectList + Copy>(
     list: u8,
 ) -> Need
     requires { list < transcript.now.lists }
-    ensures { IsUnknownOf transcript.now.accesses (drop place (L.objects objects)) list result }
+    ensures { result ≡ first_unknown transcript.now.accesses (drop place (L.objects objects)) list }
 {
     for at in place..objects.size() {
         let object = objects.object(at);
