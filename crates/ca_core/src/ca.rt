@@ -62,7 +62,7 @@ impl Ca {
     ghost use Rattle.topk_theory.specs.Asked.{combined_run};
     ghost use Rattle.machine_base.specs.Certain.{Foresees};
     ghost use Rattle.machine_base.specs.Machine.{IsBegun, IsInRange, MayBeNextRow, MayBeNextGrade, RowFed, GradeFed, IsSameLog};
-    ghost use Rattle.ca_core.specs.Machine.{MakesItsRun, IsAnswer};
+    ghost use Rattle.ca_core.specs.Machine.{MakesItsRun, IsAnswer, IsLeftOf};
 
     /// A machine for the first `k` of `count` objects, that sees `room` of them at most. No other call takes
     /// memory.
@@ -114,11 +114,12 @@ impl Ca {
         self.stage.need()
     }
 
-    /// What is certain of a list: the row there at the depth that is read, an unknown grade of the choice, or one of the first k; or
-    /// nothing. On every table that agrees with the transcript the run makes this access.
+    /// What is certain of a list, as the run makes it on every table that agrees with the transcript: the row there at the depth that is read,
+    /// the grade of the choice, or that of the first of the first k that misses it; and nothing where none does.
     pub fn certain_next(&self, list: u8) -> Need
         requires { list < self.now.log.lists }
-        ensures { Foresees combined_run self.now list result }
+        ensures certain { Foresees combined_run self.now list result }
+        ensures left { IsLeftOf self.now list result }
     {
         left(&self.base.transcript, &self.first, self.stage, list)
     }

@@ -1,6 +1,6 @@
 //! What follows an access that is told.
 
-ghost use Rattle.std.specs.Prelude.{◌≡◌, ◌≤◌, ◌<◌, [], length, vec_capacity};
+ghost use Rattle.std.specs.Prelude.{◌≡◌, ◌≤◌, ◌<◌, vec_capacity};
 ghost use Rattle.monotone_fn.specs.Value.{value};
 ghost use Rattle.machine_base.specs.Asking.{next_unknown};
 ghost use Rattle.machine_base.specs.Base.{Holds};

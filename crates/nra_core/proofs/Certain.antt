@@ -1,7 +1,7 @@
 -- The rows at the depth that is read are certain: the run reads each of them on every table that agrees.
-use Rattle.std.proofs.Common.{◌≡◌, ℕ, suc, ◌+◌, ◌<◌, ◌≤◌, false, List, arith, refl}
+use Rattle.std.proofs.Common.{◌≡◌, ℕ, suc, ◌<◌, ◌≤◌, true, false, List, [], arith, refl, sym, ap}
 use Rattle.ranked_list.specs.declared.row.Row.{Row}
-use Rattle.ranked_list.specs.declared.need.Need.TheVariants.{Row as RowAt}
+use Rattle.ranked_list.specs.declared.need.Need.TheVariants.{Row as RowAt, Done}
 use Rattle.nra_core.specs.declared.late.LateBounds.{LateBounds}
 use Rattle.monotone_fn.specs.Value.{value}
 use Rattle.monotone_fn.proofs.Laws.{value-monotone}
@@ -11,7 +11,7 @@ use Rattle.topk_theory.specs.NoRandom.{nra_run_to, nra_run, nra_depth}
 use Rattle.access_log.specs.Log.{AgreesWith}
 use Rattle.machine_base.specs.declared.base.Base.{Base}
 use Rattle.machine_base.specs.Base.{shown}
-use Rattle.machine_base.specs.Certain.{Meets, Foresees}
+use Rattle.machine_base.specs.Certain.{Meets, Foresees, left_beside, left_of}
 use Rattle.machine_base.proofs.Certain.{row_met}
 use Rattle.machine_base.proofs.Held.{held_asked}
 use Rattle.nra_core.specs.declared.place.Place.{Place}
@@ -19,7 +19,7 @@ use Rattle.nra_core.specs.Place.{need_at}
 use Rattle.nra_core.specs.OnTable.{quiet_at}
 use Rattle.nra_core.specs.Kept.{Keeps}
 use Rattle.nra_core.proofs.Steps.{row_of, reads_rows, own}
-use Rattle.nra_core.proofs.Runs.{kept_depth}
+use Rattle.nra_core.proofs.Runs.{kept_depth, need_of_row, need_when_done}
 
 row_certain : (base : Base) (late : LateBounds) (place : Place) (list : ℕ) (D : List (List Row)) → Keeps base late place → place.done ≡ false
     → list < base.transcript.lists → AgreesWith D base.transcript → Meets (nra_run (value base.expr) base.k D) (RowAt list place.depth)
@@ -43,3 +43,10 @@ row_foreseen base late place list kept going l = record {
   certain = record { met = λ D agrees. row_certain base late place list D kept going l agrees };
   of = (refl, positive base late place kept going, kept_depth base late place kept going);
 }
+
+-- of each list that row is left, and at the end nothing
+pub row_left : (base : Base) (place : Place) (list : ℕ) → place.done ≡ false → RowAt list place.depth ≡ left_of (shown base (need_at place)) [] list
+row_left base place list going = ap (λ need. left_beside need base.transcript.accesses [] list) (sym (need_of_row place going))
+
+pub nothing_left : (base : Base) (place : Place) (list : ℕ) → place.done ≡ true → Done ≡ left_of (shown base (need_at place)) [] list
+nothing_left base place list done = ap (λ need. left_beside need base.transcript.accesses [] list) (sym (need_when_done place done))

@@ -49,9 +49,9 @@ impl Model for Nra {
 }
 
 impl Nra {
-    ghost use Rattle.std.specs.Prelude.{◌≡◌, ◌≤◌, ◌<◌, IfOk, IsOk};
+    ghost use Rattle.std.specs.Prelude.{◌≡◌, ◌≤◌, ◌<◌, [], IfOk, IsOk};
     ghost use Rattle.topk_theory.specs.Asked.{no_random_run};
-    ghost use Rattle.machine_base.specs.Certain.{Foresees};
+    ghost use Rattle.machine_base.specs.Certain.{Foresees, left_of};
     ghost use Rattle.machine_base.specs.Machine.{IsBegun, IsInRange, IsNoGrade, MayBeNextRow, RowFed, IsSameLog};
     ghost use Rattle.nra_core.specs.Machine.{MakesItsRun, IsAnswer, HaveTrueBounds};
 
@@ -108,11 +108,12 @@ impl Nra {
         self.place.need()
     }
 
-    /// What is certain of a list: the row there at the depth that is read, which the run reads on every table that agrees with the
-    /// transcript; or nothing.
+    /// What is certain of a list, as the run makes it on every table that agrees with the transcript: the row there at the depth that is read,
+    /// and nothing at the end.
     pub fn certain_next(&self, list: u8) -> Need
         requires { list < self.now.log.lists }
-        ensures { Foresees no_random_run self.now list result }
+        ensures certain { Foresees no_random_run self.now list result }
+        ensures left { result ≡ left_of self.now [] list }
     {
         if self.place.done {
             return Need::Done;

@@ -1,8 +1,13 @@
 -- A machine of any of the algorithms.
-use Rattle.std.specs.Prelude.{◌≡◌, [], unwrap_or}
+use Rattle.std.specs.Prelude.{◌≡◌, ℕ, [], unwrap_or}
+use Rattle.ranked_list.specs.declared.need.Need.{Need}
+use Rattle.ranked_list.specs.declared.need.Need.TheVariants.{Done}
 use Rattle.query_text.specs.declared.algorithm.Algorithm.{Algorithm}
 use Rattle.query_text.specs.declared.algorithm.Algorithm.TheVariants.{Ta, Nra, Ca, Fa, Theta, Early, Taz}
 use Rattle.machine_base.specs.Machine.{MachineState, MakesRun, IsBegun}
+use Rattle.machine_base.specs.Certain.{left_of}
+use Rattle.ta_core.specs.Certain.{left_of_seen}
+use Rattle.ca_core.specs.Machine.{IsLeftOf}
 use Rattle.query_core.specs.declared.machine.Machine.{Machine}
 use Rattle.query_core.specs.declared.machine.Machine.TheVariants as machines
 use Rattle.query_core.specs.declared.ready.Ready.{Ready}
@@ -41,3 +46,13 @@ MakesItsRun machine = MakesRun (run_with (method_of machine)) (state_of machine)
 pub record IsMachineFor (ready : Ready) (machine : Machine) : Type 0 where
   pub method : method_of machine ≡ method_of_ready ready
   pub begun : IsBegun ready.query.expr ready.query.k ready.count (unwrap_or ready.query.room ready.count) (costs_in_force ready.query) (state_of machine)
+
+-- what is left of a list by the algorithm of a machine; two foresee nothing
+abbrev pub IsLeftFor : Machine → ℕ → Need → Type 0
+IsLeftFor (machines.Ta t) list need = need ≡ left_of_seen t list
+IsLeftFor (machines.Nra t) list need = need ≡ left_of t [] list
+IsLeftFor (machines.Ca t) list need = IsLeftOf t list need
+IsLeftFor (machines.Fa t) list need = need ≡ Done
+IsLeftFor (machines.Theta t) list need = need ≡ left_of_seen t.state list
+IsLeftFor (machines.Early t) list need = need ≡ left_of_seen t.state list
+IsLeftFor (machines.Taz t) list need = need ≡ Done

@@ -9,7 +9,7 @@ ghost use Rattle.machine_base.specs.Certain.{Foresees};
 ghost use Rattle.query_core.specs.Methods.{AnswersWith, IsNearWith, run_with};
 ghost use Rattle.query_core.specs.OneAnswer.{HasTrueItems};
 ghost use Rattle.query_core.specs.Ready.{IsReady};
-ghost use Rattle.query_core.specs.Machines.{method_of, algorithm_of, state_of, MakesItsRun, IsMachineFor};
+ghost use Rattle.query_core.specs.Machines.{method_of, algorithm_of, state_of, MakesItsRun, IsMachineFor, IsLeftFor};
 
 use super::Memory;
 use super::ready::Ready;
@@ -112,11 +112,13 @@ impl Machine {
     }
 
     /// What is certain of a list: a row or a grade that the run of the algorithm asks it for on every table that agrees with the transcript;
-    /// or nothing. Of `ta`, `theta` and `early` that is the row at the depth that is read, and after it the grade of the first new object that
-    /// misses it; of `nra` the row; of `ca` the row, a grade of the choice or of the first k.
+    /// or nothing. Of `ta`, `theta` and `early` that is the row at the depth that is read, and after it the grade of the first seen object that
+    /// misses it; of `nra` the row; of `ca` the row, the grade of the choice, or that of the first of the first k that misses it; of `fa` and
+    /// `taz` nothing.
     pub fn certain_next(&self, list: u8) -> Need
         requires { list < (state_of self.now).log.lists }
-        ensures { Foresees (run_with (method_of self.now)) (state_of self.now) list result }
+        ensures certain { Foresees (run_with (method_of self.now)) (state_of self.now) list result }
+        ensures left { IsLeftFor self.now list result }
     {
         match self {
             Machine::Ta(machine) => machine.certain_next(list),

@@ -14,7 +14,6 @@ use Rattle.topk_theory.specs.declared.access.Access.TheVariants.{Sorted, Random}
 use Rattle.topk_theory.specs.Transcript.{seen_objects}
 use Rattle.topk_theory.specs.Consistent.{Kind, IsOfKind, SomeAgrees}
 use Rattle.topk_theory.specs.Consistent.Kind.{above_top, too_many_objects}
-use Rattle.topk_theory.proofs.AgreementLists.{member_of_all}
 use Rattle.access_log.specs.Log.{Log}
 use Rattle.machine_base.specs.Machine.{MachineState, IsBegun, MayBeNextRow, MayBeNextGrade, HasRoomFor, Takes, row_access, grade_access}
 use Rattle.machine_base.specs.declared.base.Base.{Base}
@@ -29,7 +28,7 @@ use Rattle.ta_core.proofs.HaltingLaws.{rule_fit}
 use Rattle.ta_core.specs.Kept.{IsTaKept, Keeps, Stands}
 use Rattle.machine_base.proofs.BoardSteps.{waits_from, place_filled, place_left}
 use Rattle.ta_core.proofs.Runs.{need_in_row, need_after_row, need_when_done, kept_depth, first_is_member, first_seen}
-use Rattle.ta_core.proofs.Sound.{sound_row, sound_grade, fed_row}
+use Rattle.ta_core.proofs.Sound.{waiting_seen, sound_row, sound_grade, fed_row}
 use Rattle.ta_core.proofs.Feeds.{board_then, reading_then, kept_start, kept_row, kept_grade}
 use Rattle.ta_core.proofs.Unasked.{waiting_unasked}
 
@@ -93,7 +92,7 @@ place_waiting passes base board r object kept waits =
     let on = (kept.on_table some.0 some.1).board in
     let fits : length board.items < length seen =
     place_left seen board.items object on.distinct (λ item h. let k = kept_board passes base board r kept item h in (k.0, λ e. k.1 (subst (λ z. Contains r.waiting z) (sym e) waits)))
-    (member_of_all (Contains seen) r.waiting object kept.sound.waiting_seen waits) in
+    (waiting_seen base.transcript.lists base.transcript.accesses r object kept.sound waits) in
     omega (arith, kept.same_room, kept.base.roomy)
 
 -- an object that is scored has a place on the board: the new one has room, and one that waited was seen
@@ -135,7 +134,7 @@ pub ready_row : (passes : Rule) (base : Base) (board : Held) (r told : RowProgre
 ready_row passes base board r told row is_new kept may new follows is =
     let m : ℕ = base.transcript.lists in
     let next = next_row_is base.transcript r row may in
-    let sound = sound_row m base.transcript.accesses r row is_new kept.sound next.1 (kept.rest.in_row next.1) next.2 new.unseen in
+    let sound = sound_row m base.transcript.accesses r row is_new kept.sound next.1 (kept.rest.in_row next.1) next.2 new in
     let fed = fed_row m r row is_new kept.base.some_list next.1 kept.sound.same_length in
     subst (IsReady m board) (sym is) (record {
       grades = sound.grades_capped;

@@ -11,7 +11,7 @@ use Rattle.monotone_fn.proofs.Laws.{value-monotone}
 use Rattle.topk_theory.specs.declared.access.Access.{Access}
 use Rattle.topk_theory.specs.declared.access.Access.TheVariants.{Sorted, Random}
 use Rattle.topk_theory.specs.Transcript.{Agrees, seen_objects}
-use Rattle.topk_theory.proofs.AgreementLists.{contains_nil, member_of_all}
+use Rattle.topk_theory.proofs.AgreementLists.{contains_nil}
 use Rattle.topk_theory.proofs.AgreementNames.{each_once_within}
 use Rattle.topk_theory.proofs.Agreement.{agrees_front}
 use Rattle.topk_theory.specs.Consistent.{SomeAgrees}
@@ -30,7 +30,7 @@ use Rattle.ta_core.proofs.Asks.{row_is_last, grade_goes_on}
 use Rattle.machine_base.proofs.BoardSteps.{board_after_row, board_after_grade}
 use Rattle.ta_core.proofs.Steps.{row_of_reading, asks_of_reading, on_row, row_follows_on, asks_follow_on}
 use Rattle.ta_core.proofs.Unasked.{waiting_unasked}
-use Rattle.ta_core.proofs.Sound.{sound_row, sound_grade, IsFed, fed_row, fed_grade, sound_followed}
+use Rattle.ta_core.proofs.Sound.{waiting_seen, sound_row, sound_grade, IsFed, fed_row, fed_grade, sound_followed}
 use Rattle.ta_core.proofs.Runs.{first_member, first_is_member}
 
 -- at the beginning
@@ -42,7 +42,7 @@ kept_start passes e k room m n board fit held same_k same_room empty = record {
   same_k = same_k;
   same_room = same_room;
   sound = record {
-    waiting_seen = All-nil (Contains (seen_objects []));
+    waiting_last = ([], refl);
     objects_seen = All-nil (Contains (seen_objects []));
     same_length = refl;
     within = omega arith;
@@ -150,14 +150,14 @@ kept_row passes e k room m n A board r row is_new kept open' short capped new fo
     let a : Access = Sorted (length r.objects) row.object row.grade in
     let r' : RowProgress = row_added m r row is_new in
     let none : length r.grades ≡ 0 = kept.rest.in_row short in
-    let sound : IsSound m (A ++ a ∷ []) r' = sound_row m A r row is_new kept.sound short none capped new.unseen in
+    let sound : IsSound m (A ++ a ∷ []) r' = sound_row m A r row is_new kept.sound short none capped new in
     let fed : IsFed m r' = fed_row m r row is_new kept.base.some_list short kept.sound.same_length in
     kept_with passes e k room m n A a board r' kept.same_k kept.same_room kept.fit (held_more e k room m n A a kept.base follows some) (sound_followed V halt m (A ++ a ∷ []) (items_after V m board.items r') r' kept.base.some_list open' sound fed)
     (λ D agrees.
     let wide : length D ≡ m = agrees.lists in
     let before : Agrees m n D A = agrees_front m n D A (a ∷ []) agrees in
     let then = table_row V halt n D A r board.items row is_new (value-monotone e) (halting_of halt n D kept.fit (held_asked e k room m n A D kept.base before)) open' (omega arith) none kept.sound.same_length
-    (λ o h. member_of_all (Contains (seen_objects (A ++ a ∷ []))) r'.waiting o sound.waiting_seen h)
+    (λ o h. waiting_seen m (A ++ a ∷ []) r' o sound h)
     (kept.on_table D before) (subst (λ c. Agrees c n D (A ++ a ∷ [])) (sym wide) agrees) new.unseen new.seen in
     subst (λ c. OnTable V halt n D (A ++ a ∷ []) (followed V halt (length D) (items_after V (length D) board.items (row_added c r row is_new)) (row_added c r row is_new)) (items_after V (length D) board.items (row_added c r row is_new))) wide then)
 
@@ -174,11 +174,11 @@ kept_grade passes e k room m n A board r grade kept open' whole capped some =
     let long : length r.objects ≡ m = omega (arith, kept.sound.within) in
     let sound : IsSound m (A ++ a ∷ []) r' = sound_grade m A r grade kept.sound rest.0 capped in
     let fed : IsFed m r' = fed_grade m r grade long kept.sound.same_length rest.0 rest.1 in
-    let seen : Contains (seen_objects A) (first_or_zero r.waiting) = member_of_all (Contains (seen_objects A)) r.waiting (first_or_zero r.waiting) kept.sound.waiting_seen (first_is_member r.waiting rest.0) in
+    let seen : Contains (seen_objects A) (first_or_zero r.waiting) = waiting_seen m A r (first_or_zero r.waiting) kept.sound (first_is_member r.waiting rest.0) in
     kept_with passes e k room m n A a board r' kept.same_k kept.same_room kept.fit (held_more e k room m n A a kept.base (seen, waiting_unasked passes e k room m n A board r kept open' whole) some) (sound_followed V halt m (A ++ a ∷ []) (items_after V m board.items r') r' kept.base.some_list open' sound fed)
     (λ D agrees.
     let wide : length D ≡ m = agrees.lists in
     let before : Agrees m n D A = agrees_front m n D A (a ∷ []) agrees in
     table_grade V halt n D A r board.items grade (value-monotone e) (halting_of halt n D kept.fit (held_asked e k room m n A D kept.base before)) open' (omega arith) kept.sound.same_length rest.0 (omega (arith, rest.1)) rest.2
-    (λ o h. member_of_all (Contains (seen_objects (A ++ a ∷ []))) r.waiting o sound.waiting_seen h)
+    (λ o h. waiting_seen m (A ++ a ∷ []) r' o sound h)
     (kept.on_table D before) (subst (λ c. Agrees c n D (A ++ a ∷ [])) (sym wide) agrees))

@@ -8,7 +8,7 @@ use Rattle.monotone_fn.specs.Value.{value}
 use Rattle.monotone_fn.proofs.Laws.{value-monotone}
 use Rattle.topk_theory.specs.Transcript.{seen_objects}
 use Rattle.topk_theory.specs.Machine.{IsAt, CanServe}
-use Rattle.topk_theory.proofs.AgreementLists.{contains_here, member_of_all}
+use Rattle.topk_theory.proofs.AgreementLists.{contains_here}
 use Rattle.access_log.specs.Log.{AgreesWith}
 use Rattle.machine_base.specs.Machine.{IsOfSeen}
 use Rattle.machine_base.specs.declared.base.Base.{Base}
@@ -23,6 +23,7 @@ use Rattle.ta_core.specs.Kept.{Keeps}
 use Rattle.ta_core.specs.Machine.{MakesHaltingRun}
 use Rattle.ta_core.proofs.NeedSteps.{row_next, grade_needed}
 use Rattle.ta_core.proofs.Steps.{row_of_reading, asks_of_reading, made_of_reading}
+use Rattle.ta_core.proofs.Sound.{waiting_seen}
 
 -- what is needed, by where the reading is
 pub need_in_row : (m : ℕ) (r : RowProgress) → r.done ≡ false → length r.objects < m → need_at m r ≡ RowAt (length r.objects) r.depth
@@ -78,7 +79,7 @@ first_is_member (w ∷ ws) l = contains_here w ws
 
 pub first_seen : (passes : Rule) (base : Base) (board : Held) (r : RowProgress) → Keeps passes base board r → 0 < length r.waiting
     → Contains (seen_objects base.transcript.accesses) (first_or_zero r.waiting)
-first_seen passes base board r kept waits = member_of_all (Contains (seen_objects base.transcript.accesses)) r.waiting (first_or_zero r.waiting) kept.sound.waiting_seen (first_is_member r.waiting waits)
+first_seen passes base board r kept waits = waiting_seen base.transcript.lists base.transcript.accesses r (first_or_zero r.waiting) kept.sound (first_is_member r.waiting waits)
 
 tame_need : (passes : Rule) (base : Base) (board : Held) (r : RowProgress) → Keeps passes base board r → IsOfSeen base.transcript (need_at base.transcript.lists r)
 tame_need passes base board r kept =

@@ -1,7 +1,8 @@
 -- What a reading is whatever the table, after a row, after a grade and after what follows.
-use Rattle.std.proofs.Common.{◌≡◌, ◌≢◌, ℕ, zero, suc, ◌+◌, ◌-◌, ◌<◌, ◌≤◌, inl, inr, Bool, true, false, cond, ◌==◌, List, [], ◌∷◌, ◌++◌, length, drop, Contains, slice_index, refl, sym, ap, subst, ◌∙◌, arith, length-append, length-drop, eq-eqb}
+use Rattle.std.proofs.Common.{◌≡◌, ◌≢◌, ℕ, zero, suc, ◌+◌, ◌-◌, ◌<◌, ◌≤◌, inl, inr, Bool, true, false, cond, ◌==◌, List, [], ◌∷◌, ◌++◌, length, take, drop, Contains, slice_index, refl, sym, ap, subst, ◌∙◌, arith, append_assoc, append-nil, length-append, length-drop, eq-eqb}
 use Rattle.std.proofs.lemmas.Bool.{cases_Bool, cases_lt, cases_eq, ne_eqb, true≢false}
-use Rattle.std.proofs.lemmas.List.Elements.{Contains-push, Contains-push_cases, All-push, All-append, All-drop, All-nil, All-cons, All-head, All-tail}
+use Rattle.std.proofs.lemmas.List.{take-append-drop}
+use Rattle.std.proofs.lemmas.List.Elements.{Contains-append_right, Contains-push, Contains-push_cases, All-push, All-append, All-drop, All-nil, All-cons, All-head, All-tail}
 use Rattle.ranked_list.specs.declared.row.Row.{Row}
 use Rattle.ranked_list.specs.declared.item.Item.{Item}
 use Rattle.monotone_fn.specs.Limits.{AreGrades}
@@ -9,13 +10,14 @@ use Rattle.topk_theory.specs.declared.access.Access.{Access}
 use Rattle.topk_theory.specs.declared.access.Access.TheVariants.{Sorted, Random}
 use Rattle.topk_theory.specs.Transcript.{seen_objects}
 use Rattle.topk_theory.proofs.AgreementLists.{contains_nil, contains_here, contains_there, all_from_members, member_of_all}
+use Rattle.topk_theory.proofs.Agreement.{seen_objects_old, seen_objects_new, seen_objects_random}
 use Rattle.topk_theory.proofs.ThresholdRun.{seen_from_access, seen_more}
+use Rattle.machine_base.specs.Base.{TellsNew}
 use Rattle.machine_base.specs.Board.{with_new}
 use Rattle.ta_core.specs.Halting.{Halt}
 use Rattle.ta_core.specs.Reading.{RowProgress, grades_in_row, filled, filled_first, first_or_zero, row_added, grade_added, moved, enough, followed}
 use Rattle.ta_core.specs.Kept.{IsSound, IsAtRest}
 use Rattle.ta_core.proofs.Fills.{length-grades_in_row, grades_in_row_end}
-use Rattle.machine_base.proofs.BoardSteps.{waits_from}
 use Rattle.ta_core.proofs.Steps.{settled_not, settled_scored, moved_on, moved_down}
 
 -- the grades that a row has are some of its own
@@ -55,11 +57,21 @@ later_still (o ∷ os) (w ∷ ws) object true few later fresh x h =
     ]
 later_still (o ∷ os) (w ∷ ws) object false few later fresh x h = later x h
 
+-- what waits was seen
+pub waiting_seen : (m : ℕ) (A : List Access) (r : RowProgress) (object : ℕ) → IsSound m A r → Contains r.waiting object → Contains (seen_objects A) object
+waiting_seen m A r object s h = subst (λ os. Contains os object) (sym s.waiting_last.1) (Contains-append_right s.waiting_last.0 r.waiting object h)
+
+-- a new object is the last of the seen ones, and of those that wait
+last_after_row : (A : List Access) (list : ℕ) (before ws : List ℕ) (object grade : ℕ) (is_new : Bool) → TellsNew A object is_new → seen_objects A ≡ before ++ ws
+    → seen_objects (A ++ Sorted list object grade ∷ []) ≡ before ++ with_new ws object is_new
+last_after_row A list before ws object grade true new e =
+    seen_objects_new A list object grade (new.unseen refl) ∙ ap (λ os. os ++ object ∷ []) e ∙ append_assoc before ws (object ∷ [])
+last_after_row A list before ws object grade false new e = seen_objects_old A list object grade (new.seen refl) ∙ e
+
 -- after one more row
 pub sound_row : (m : ℕ) (A : List Access) (r : RowProgress) (row : Row) (is_new : Bool) → IsSound m A r → length r.objects < m → length r.grades ≡ 0
-    → row.grade ≤ 1000000 → (is_new ≡ true → ¬ Contains (seen_objects A) row.object)
-    → IsSound m (A ++ Sorted (length r.objects) row.object row.grade ∷ []) (row_added m r row is_new)
-sound_row m A r row is_new s short none capped fresh =
+    → row.grade ≤ 1000000 → TellsNew A row.object is_new → IsSound m (A ++ Sorted (length r.objects) row.object row.grade ∷ []) (row_added m r row is_new)
+sound_row m A r row is_new s short none capped new =
     let a : Access = Sorted (length r.objects) row.object row.grade in
     let seen : Contains (seen_objects (A ++ a ∷ [])) row.object = seen_from_access (A ++ a ∷ []) (length r.objects) row.object row.grade (Contains-push A a) in
     let more : (x : ℕ) → Contains (seen_objects A) x → Contains (seen_objects (A ++ a ∷ [])) x = λ x h. seen_more A (a ∷ []) x h in
@@ -70,10 +82,7 @@ sound_row m A r row is_new s short none capped fresh =
     let bs_long : length bs ≡ length r.bottoms + 1 = length-append r.bottoms (row.grade ∷ []) in
     let bs_capped : AreGrades bs = All-push (λ g. g ≤ 1000000) r.bottoms row.grade s.bottoms_capped capped in
     record {
-      waiting_seen = all_from_members (Contains (seen_objects (A ++ a ∷ []))) ws (λ x h. elim (waits_from r.waiting row.object is_new x h) [
-        | inl before ↦ more x (member_of_all (Contains (seen_objects A)) r.waiting x s.waiting_seen before)
-        | inr here ↦ subst (λ z. Contains (seen_objects (A ++ a ∷ [])) z) here.1 seen
-      ]);
+      waiting_last = (s.waiting_last.0, last_after_row A (length r.objects) s.waiting_last.0 r.waiting row.object row.grade is_new new s.waiting_last.1);
       objects_seen = all_from_members (Contains (seen_objects (A ++ a ∷ []))) os (λ x h. elim (Contains-push_cases r.objects row.object x h) [
         | inl before ↦ more x (member_of_all (Contains (seen_objects A)) r.objects x s.objects_seen before)
         | inr here ↦ subst (λ z. Contains (seen_objects (A ++ a ∷ [])) z) here seen
@@ -86,7 +95,7 @@ sound_row m A r row is_new s short none capped fresh =
         | inl t ↦ subst AreGrades (sym (ap (λ b. cond b (filled_first os bs ws) []) t)) (capped_first os bs ws bs_capped)
         | inr f ↦ subst AreGrades (sym (ap (λ b. cond b (filled_first os bs ws) []) f)) (All-nil (λ g. g ≤ 1000000))
       ];
-      later = later_still r.objects r.waiting row.object is_new s.few s.later (λ e c. fresh e (member_of_all (Contains (seen_objects A)) r.objects row.object s.objects_seen c));
+      later = later_still r.objects r.waiting row.object is_new s.few s.later (λ e c. new.unseen e (member_of_all (Contains (seen_objects A)) r.objects row.object s.objects_seen c));
     }
 
 -- after one more grade
@@ -96,7 +105,7 @@ sound_grade m A r grade s waits capped =
     let a : Access = Random (length r.grades) (first_or_zero r.waiting) grade in
     let more : (x : ℕ) → Contains (seen_objects A) x → Contains (seen_objects (A ++ a ∷ [])) x = λ x h. seen_more A (a ∷ []) x h in
     record {
-      waiting_seen = all_from_members (Contains (seen_objects (A ++ a ∷ []))) r.waiting (λ x h. more x (member_of_all (Contains (seen_objects A)) r.waiting x s.waiting_seen h));
+      waiting_last = (s.waiting_last.0, seen_objects_random A (length r.grades) (first_or_zero r.waiting) grade ∙ s.waiting_last.1);
       objects_seen = all_from_members (Contains (seen_objects (A ++ a ∷ []))) r.objects (λ x h. more x (member_of_all (Contains (seen_objects A)) r.objects x s.objects_seen h));
       same_length = s.same_length;
       within = s.within;
@@ -191,6 +200,10 @@ first_later [] l = absurd (omega arith)
 first_later (w ∷ []) l = absurd (omega arith)
 first_later (w ∷ v ∷ ws) l = contains_here v ws
 
+-- once the first of them waits no more
+one_less : (before ws : List ℕ) → before ++ ws ≡ (before ++ take 1 ws) ++ drop 1 ws
+one_less before ws = ap (λ os. before ++ os) (sym (take-append-drop 1 ws)) ∙ sym (append_assoc before (take 1 ws) (drop 1 ws))
+
 sound_moved : (m : ℕ) (A : List Access) (stops : Bool) (r : RowProgress) → IsSound m A r → 1 ≤ m → r.done ≡ false → (length r.objects < m → length r.grades ≡ 0)
     → (m ≤ length r.objects → 0 < length r.waiting → (length r.grades < m) × (slice_index r.objects (length r.grades) ≢ first_or_zero r.waiting))
     → IsSound m A (moved m stops r) × IsAtRest m (moved m stops r)
@@ -217,13 +230,13 @@ sound_moved m A stops r s positive open' in_row after_row =
     down : (b : Bool) → length r.objects ≡ m → length r.waiting ≡ 0 → IsSound m A (moved m b r) × IsAtRest m (moved m b r)
     down true e w =
         subst (λ z. IsSound m A z × IsAtRest m z) (sym (moved_down m true r e w)) (
-          record { waiting_seen = s.waiting_seen; objects_seen = s.objects_seen; same_length = s.same_length; within = s.within; few = s.few; bottoms_capped = s.bottoms_capped; grades_capped = s.grades_capped; later = s.later },
+          record { waiting_last = s.waiting_last; objects_seen = s.objects_seen; same_length = s.same_length; within = s.within; few = s.few; bottoms_capped = s.bottoms_capped; grades_capped = s.grades_capped; later = s.later },
           record { in_row = λ l. absurd (omega arith); after_row = λ o. absurd (true≢false o) },
         )
     down false e w =
         subst (λ z. IsSound m A z × IsAtRest m z) (sym (moved_down m false r e w)) (
           record {
-            waiting_seen = All-nil (Contains (seen_objects A));
+            waiting_last = (seen_objects A, sym (append-nil (seen_objects A)));
             objects_seen = All-nil (Contains (seen_objects A));
             same_length = refl;
             within = omega arith;
@@ -247,7 +260,7 @@ sound_followed V halt m A items r positive open' s fed =
           let t : RowProgress = record r { waiting = drop 1 r.waiting; grades = [] } in
           let whole : m ≤ length r.objects = out_of_row fed.in_row e in
           let sound : IsSound m A t = record {
-            waiting_seen = All-drop (Contains (seen_objects A)) 1 r.waiting s.waiting_seen;
+            waiting_last = (s.waiting_last.0 ++ take 1 r.waiting, s.waiting_last.1 ∙ one_less s.waiting_last.0 r.waiting);
             objects_seen = s.objects_seen;
             same_length = s.same_length;
             within = s.within;

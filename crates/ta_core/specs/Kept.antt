@@ -1,5 +1,5 @@
 -- What a machine keeps.
-use Rattle.std.specs.Prelude.{◌≡◌, ◌≢◌, ◌<◌, ◌≤◌, ℕ, false, List, length, drop, All, Contains, slice_index}
+use Rattle.std.specs.Prelude.{◌≡◌, ◌≢◌, ◌<◌, ◌≤◌, ℕ, false, List, ◌++◌, length, drop, All, Contains, slice_index}
 use Rattle.ranked_list.specs.declared.row.Row.{Row}
 use Rattle.best_k.specs.Held.{Held}
 use Rattle.monotone_fn.specs.Tree.{Tree}
@@ -14,9 +14,9 @@ use Rattle.ta_core.specs.Halting.{Rule, IsFit, passes_by}
 use Rattle.ta_core.specs.Reading.{RowProgress, first_or_zero}
 use Rattle.ta_core.specs.OnTable.{OnTable}
 
--- what a reading of m lists is, whatever the table
+-- what a reading of m lists is, whatever the table: the objects that wait are the last of the seen ones
 pub record IsSound (m : ℕ) (A : List Access) (r : RowProgress) : Type 0 where
-  pub waiting_seen : All (Contains (seen_objects A)) r.waiting
+  pub waiting_last : (before : List ℕ) × (seen_objects A ≡ before ++ r.waiting)
   pub objects_seen : All (Contains (seen_objects A)) r.objects
   pub same_length : length r.bottoms ≡ length r.objects
   pub within : length r.objects ≤ m

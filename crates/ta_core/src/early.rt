@@ -40,6 +40,7 @@ impl Model for Early {
 impl Early {
     ghost use Rattle.std.specs.Prelude.{◌≡◌, ◌≤◌, ◌<◌, IfOk};
     ghost use Rattle.machine_base.specs.Certain.{Foresees};
+    ghost use Rattle.ta_core.specs.Certain.{left_of_seen};
     ghost use Rattle.theta_theory.specs.Nearby.{early_stopped_run};
     ghost use Rattle.machine_base.specs.Machine.{IsBegun, IsInRange, MayBeNextRow, MayBeNextGrade, RowFed, GradeFed, IsSameLog};
     ghost use Rattle.ta_core.specs.MachineWithin.{MakesEarlyRun, IsEarlyAnswer};
@@ -78,10 +79,12 @@ impl Early {
         self.machine.need()
     }
 
-    /// What is certain of a list: an access that the run makes on every table that agrees with the transcript; or nothing.
+    /// What is certain of a list, as the run makes it on every table that agrees with the transcript: the row there at the depth that is read,
+    /// after the row the grade of the first seen object that misses it, and nothing where none does.
     pub fn certain_next(&self, list: u8) -> Need
         requires { list < self.now.state.log.lists }
-        ensures { Foresees (early_stopped_run self.now.depth) self.now.state list result }
+        ensures certain { Foresees (early_stopped_run self.now.depth) self.now.state list result }
+        ensures left { result ≡ left_of_seen self.now.state list }
     {
         self.machine.certain_next(list)
     }

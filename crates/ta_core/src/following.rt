@@ -1,7 +1,6 @@
 //! What follows an access that is told.
 
-ghost use Rattle.std.specs.Prelude.{◌≡◌, ◌<◌, ◌-◌, ◌^◌, ◌==◌, if◌then◌else◌, length};
-ghost use Rattle.best_k.specs.Held.{Held};
+ghost use Rattle.std.specs.Prelude.{◌≡◌, ◌<◌, ◌-◌, ◌^◌, length};
 ghost use Rattle.monotone_fn.specs.Value.{value};
 ghost use Rattle.monotone_fn.specs.Limits.{AreGrades};
 ghost use Rattle.machine_base.specs.Base.{Holds};

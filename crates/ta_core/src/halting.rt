@@ -1,6 +1,6 @@
 //! When a threshold machine halts.
 
-ghost use Rattle.std.specs.Prelude.{◌≡◌, ◌≤◌};
+ghost use Rattle.std.specs.Prelude.{◌≡◌};
 ghost use Rattle.ta_core.specs.Halting.{passes_by};
 
 /// When a machine halts: at the first depth at whose end at least k of the seen objects pass, by their aggregates.

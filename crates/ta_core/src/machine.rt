@@ -6,7 +6,7 @@ use super::progress::Progress;
 use access_log::{Access, Transcript};
 use best_k::Board;
 use limits::MAX_OBJECTS;
-use machine_base::{Answer, Base, CoreFault, Memory, Need};
+use machine_base::{Answer, Base, CoreFault, Memory, Need, first_unknown};
 use monotone_fn::{Costs, Expr};
 use ranked_list::Row;
 use std::alloc::Global;
@@ -46,6 +46,7 @@ impl ThresholdMachine {
     ghost use Rattle.machine_base.specs.Machine.{IsBegun, IsInRange, MayBeNextRow, MayBeNextGrade, RowFed, GradeFed, IsSameLog};
     ghost use Rattle.access_log.specs.Log.{IsWithinLimits};
     ghost use Rattle.machine_base.specs.Certain.{Foresees};
+    ghost use Rattle.ta_core.specs.Certain.{left_of_seen};
     ghost use Rattle.ta_core.specs.Halting.{IsFair, run_halting};
     ghost use Rattle.ta_core.specs.Machine.{MakesHaltingRun, IsHaltingAnswer};
 
@@ -94,15 +95,23 @@ impl ThresholdMachine {
         self.progress.need(self.base.transcript.lists())
     }
 
-    /// What is certain of a list: the row there at this depth, or after the row the grade of the first new object that misses it; or nothing.
-    /// On every table that agrees with the transcript the run makes this access.
+    /// What is certain of a list, as the run makes it on every table that agrees with the transcript: the row there at the depth that is read,
+    /// after the row the grade of the first seen object that misses it, and nothing where none does.
     ///
     /// *Cost*: a look at each object that waits.
     pub fn certain_next(&self, list: u8) -> Need
         requires { list < self.now.state.log.lists }
-        ensures { Foresees (run_halting self.now.halting) self.now.state list result }
+        ensures certain { Foresees (run_halting self.now.halting) self.now.state list result }
+        ensures left { result ≡ left_of_seen self.now.state list }
     {
-        self.progress.left(self.base.transcript.lists(), list)
+        match self.need() {
+            Need::Row { depth, .. } => Need::Row { list, depth },
+            Need::Grade { .. } => {
+                let waiting = self.progress.waiting.as_slice();
+                first_unknown(&self.base.transcript, waiting, 0, list)
+            }
+            Need::Done => Need::Done,
+        }
     }
 
     /// Tells the row that is needed. Where it is refused nothing has changed. Takes no memory.

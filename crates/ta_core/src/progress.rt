@@ -1,8 +1,7 @@
 //! How far a machine has come in the row that it reads.
 
-ghost use Rattle.std.specs.Prelude.{◌≡◌, ◌<◌, ◌≤◌, ℕ, true, Some, IfSome, length, slice_get};
+ghost use Rattle.std.specs.Prelude.{◌≡◌, ◌<◌, ◌≤◌, length};
 ghost use Rattle.ta_core.specs.Reading.{filled, row_added, grade_added, settled, row_begun, need_at, is_scored, is_whole};
-ghost use Rattle.ta_core.specs.Certain.{MissesGrade, IsLeft};
 ghost use Rattle.ta_core.specs.Shown.{reading_of, filled_for};
 
 use arrayvec::ArrayVec;
@@ -116,52 +115,6 @@ impl Progress {
         ensures { result ≡ is_whole lists (reading_of self.now) }
     {
         self.objects.len() == lists as usize && self.waiting.is_empty()
-    }
-
-    /// Whether the object at a place among those that wait misses its grade in a list.
-    fn misses(&self, list: u8, object: u32, place: usize) -> bool
-        requires read { list < length self.now.objects.items }
-        requires here { slice_get self.now.waiting.items place ≡ Some object }
-        ensures { result ≡ true → MissesGrade (reading_of self.now) list object place }
-    {
-        let list = usize::from(list);
-        (place > 0 || self.grades.len() <= list) && self.objects.as_slice()[list] != object
-    }
-
-    /// The grade in a list of the first object that waits for it, if one does.
-    fn grade_left(&self, list: u8) -> Option<u32>
-        requires { list < length self.now.objects.items }
-        ensures { IfSome result (λ object. (place : ℕ) × MissesGrade (reading_of self.now) list object place) }
-    {
-        let waiting = self.waiting.as_slice();
-        for place in 0..waiting.len() {
-            let object = waiting[place];
-            if self.misses(list, object, place) {
-                return Some(object);
-            }
-        }
-        None
-    }
-
-    /// What is left of the row in a list: the row there, or the grade of the first object that waits for it; or nothing.
-    pub(crate) fn left(&self, lists: u8, list: u8) -> Need
-        requires { list < lists }
-        ensures { IsLeft lists (reading_of self.now) list result }
-    {
-        if self.done {
-            return Need::Done;
-        }
-        let read = self.objects.len();
-        if read < lists as usize {
-            return Need::Row {
-                list,
-                depth: self.depth,
-            };
-        }
-        match self.grade_left(list) {
-            Some(object) => Need::Grade { list, object },
-            None => Need::Done,
-        }
     }
 
     /// What is needed next.

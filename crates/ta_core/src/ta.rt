@@ -38,6 +38,7 @@ impl Model for Ta {
 impl Ta {
     ghost use Rattle.std.specs.Prelude.{◌≡◌, ◌≤◌, ◌<◌, IfOk};
     ghost use Rattle.machine_base.specs.Certain.{Foresees};
+    ghost use Rattle.ta_core.specs.Certain.{left_of_seen};
     ghost use Rattle.topk_theory.specs.Asked.{threshold_run};
     ghost use Rattle.machine_base.specs.Machine.{IsBegun, IsInRange, MayBeNextRow, MayBeNextGrade, RowFed, GradeFed, IsSameLog};
     ghost use Rattle.ta_core.specs.Machine.{MakesItsRun, IsAnswer};
@@ -73,10 +74,12 @@ impl Ta {
         self.machine.need()
     }
 
-    /// What is certain of a list: an access that the run makes on every table that agrees with the transcript; or nothing.
+    /// What is certain of a list, as the run makes it on every table that agrees with the transcript: the row there at the depth that is read,
+    /// after the row the grade of the first seen object that misses it, and nothing where none does.
     pub fn certain_next(&self, list: u8) -> Need
         requires { list < self.now.log.lists }
-        ensures { Foresees threshold_run self.now list result }
+        ensures certain { Foresees threshold_run self.now list result }
+        ensures left { result ≡ left_of_seen self.now list }
     {
         self.machine.certain_next(list)
     }

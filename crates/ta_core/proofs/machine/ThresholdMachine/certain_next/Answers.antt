@@ -1,21 +1,32 @@
-use Rattle.std.proofs.Common.{◌≡◌, ◌<◌, ℕ, subst, sym, ap, ◌∙◌}
-use Rattle.machine_base.specs.Certain.{Foresees}
-use Rattle.ta_core.specs.Certain.{IsLeft}
+use Rattle.std.proofs.Common.{ℕ, List, subst, sym, ap, ◌∙◌}
+use Rattle.ranked_list.specs.declared.need.Need.{Need}
+use Rattle.ranked_list.specs.declared.need.Need.TheVariants as needs
+use Rattle.machine_base.specs.Certain.{Foresees, first_unknown}
 use Rattle.ta_core.specs.Halting.{run_halting}
-use Rattle.ta_core.specs.Machine.{ThresholdState}
 use Rattle.ta_core.specs.Shown.{reading_of}
-use Rattle.ta_core.proofs.Certain.{left_is_foreseen}
+use Rattle.ta_core.proofs.Certain.{state_foresees, state_left}
 use Rattle.ta_core.proofs.machine.ThresholdMachine.certain_next.Goals as goal
 
-pub left-requires : goal.left-requires
-left-requires c =
-    let lists : c.lists.result ≡ c.args.self.now.state.log.lists = c.lists.ensures.lists ∙ ap (λ (t : ThresholdState). t.state.log.lists) c.self.view_is in
-    subst (λ n. c.args.list < n) (sym lists) c.requires
-
-pub returns : goal.returns
-returns c =
+pub returns-in-Row-clause-left : goal.returns-in-Row-clause-left
+returns-in-Row-clause-left c =
     let a = c.self.inside in
-    let here : c.args.list < a.base.transcript.lists = subst (λ (t : ThresholdState). c.args.list < t.state.log.lists) (sym c.self.view_is) c.requires in
-    let left : IsLeft a.base.transcript.lists (reading_of a.progress) c.args.list c.left.result = subst (λ n. IsLeft n (reading_of a.progress) c.args.list c.left.result) c.lists.ensures.lists c.left.ensures in
-    subst (λ (t : ThresholdState). Foresees (run_halting t.halting) t.state c.args.list c.left.result) c.self.view_is
-    (left_is_foreseen a.halting a.base a.board (reading_of a.progress) c.args.list c.left.result c.self.invariant.kept here left)
+    state_left a.halting a.base a.board (reading_of a.progress) c.args.list (needs.Row c.in-Row.list c.in-Row.depth) c.args.self.now c.self.invariant.kept c.self.view_is c.requires c.in-Row.ensures.need
+
+pub returns-in-Row-clause-certain : goal.returns-in-Row-clause-certain
+returns-in-Row-clause-certain c =
+    let a = c.self.inside in
+    subst (λ (need : Need). Foresees (run_halting c.args.self.now.halting) c.args.self.now.state c.args.list need) (sym (returns-in-Row-clause-left c))
+    (state_foresees a.halting a.base a.board (reading_of a.progress) c.args.list c.args.self.now c.self.invariant.kept c.self.view_is c.requires)
+
+pub returns-in-Grade-clause-left : goal.returns-in-Grade-clause-left
+returns-in-Grade-clause-left c =
+    let a = c.self.inside in
+    c.first_unknown.ensures
+    ∙ ap (λ (os : List ℕ). first_unknown a.base.transcript.accesses os c.args.list) c.as_slice-waiting.ensures.value
+    ∙ state_left a.halting a.base a.board (reading_of a.progress) c.args.list (needs.Grade c.in-Grade.list c.in-Grade.object) c.args.self.now c.self.invariant.kept c.self.view_is c.requires c.in-Grade.ensures.need
+
+pub returns-in-Grade-clause-certain : goal.returns-in-Grade-clause-certain
+returns-in-Grade-clause-certain c =
+    let a = c.self.inside in
+    subst (λ (need : Need). Foresees (run_halting c.args.self.now.halting) c.args.self.now.state c.args.list need) (sym (returns-in-Grade-clause-left c))
+    (state_foresees a.halting a.base a.board (reading_of a.progress) c.args.list c.args.self.now c.self.invariant.kept c.self.view_is c.requires)
