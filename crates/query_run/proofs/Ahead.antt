@@ -1,5 +1,5 @@
 -- Looks ahead, by which a query asks for what is certain, and stays as it is.
-use Rattle.std.proofs.Common.{◌≡◌, ◌<◌, ◌∷◌, [], inl, inr, ℕ, false, None, List, length, Contains, slice_index_or, refl, sym, ap, subst, ◌∙◌, arith}
+use Rattle.std.proofs.Common.{◌≡◌, ◌<◌, ◌∷◌, [], inl, inr, ℕ, Bool, MatchBool, true, false, None, List, length, Contains, slice_index_or, refl, sym, ap, subst, ◌∙◌, arith}
 use Rattle.std.proofs.lemmas.Bool.Decides.{eqb_tells}
 use Rattle.std.proofs.lemmas.List.{get_or_read}
 use Rattle.ranked_list.specs.declared.need.Need.{Need}
@@ -13,11 +13,11 @@ use Rattle.source_state.specs.declared.look.Waiting.{Waiting}
 use Rattle.source_state.specs.State.{facts_of}
 use Rattle.source_pool.specs.declared.hold.Hold.{Hold}
 use Rattle.source_pool.specs.Passes.{hold_at, OthersStay}
-use Rattle.source_pool.specs.Looks.{MayLookFor, AsksAhead, IsWithin}
+use Rattle.source_pool.specs.Looks.{MayLookFor, IsCalledAhead, IsNotCalled, AsksAhead, IsWithin}
 use Rattle.query_core.specs.Machines.{state_of}
 use Rattle.query_run.specs.declared.inquiry.Inquiry.{Inquiry}
 use Rattle.query_run.specs.Inquiries.{list_needed, source_of, is_done}
-use Rattle.query_run.specs.Asking.{IsCertainFor}
+use Rattle.query_run.specs.Asking.{IsCertainFor, Wanted}
 use Rattle.query_run.specs.Failing.{HasCalledFor}
 use Rattle.query_run.specs.Looking.{HasForeseen, LooksOnce, LooksAhead, LooksAndAhead, IsReading, IsOnItsWay, WaitsAt, Stands, HasLooked}
 use Rattle.query_run.specs.Inquiries as inquiries
@@ -55,28 +55,30 @@ ahead_on before now after q one other = record {
   others = λ source absent. other.others source absent ∙ one.others source absent;
 }
 
--- a turn that asks for a need to come
-foreseen_by : (q : Inquiry) (source : ℕ) (n : Need) (before after : Hold) → list_needed n < length q.sources.items → source_of q (list_needed n) ≡ source → IsCertainFor q n
-    → AsksAhead n before after → (IsWithin before → IsWithin after) → HasForeseen q source before after
-foreseen_by q source n before after listed of certain asks within = record {
+-- what a turn that asks for a need to come wants
+wanted_ahead : (q : Inquiry) (source : ℕ) (n : Need) (before after : Hold) (missing : Bool) → list_needed n < length q.sources.items → source_of q (list_needed n) ≡ source
+    → IsCertainFor q n → MatchBool missing (IsCalledAhead n before after) (IsNotCalled n before after) → Wanted q source before.pass.1 after.pass.1
+wanted_ahead q source n before after true listed of certain h = need_called q source n before.pass.1 after.pass.1 listed of certain h.called
+wanted_ahead q source n before after false listed of certain h = wanted_none q source before.pass.1 after.pass.1 h.marks
+
+foreseen_by : (q : Inquiry) (source : ℕ) (n : Need) (before after : Hold) (missing : Bool) → list_needed n < length q.sources.items → source_of q (list_needed n) ≡ source
+    → IsCertainFor q n → AsksAhead n before after missing → (IsWithin before → IsWithin after) → HasForeseen q source before after
+foreseen_by q source n before after missing listed of certain asks within = record {
   waits = asks.waits;
   shown = asks.shown;
   knows = hold_knows before after asks.knows within;
   turns = record { rest = facts_of asks.left ∷ []; goes_on = ap (λ (known : Known _). known.gave) asks.gave };
-  wanted = elim asks.called [
-    | inl marks ↦ wanted_none q source before.pass.1 after.pass.1 marks
-    | inr called ↦ need_called q source n before.pass.1 after.pass.1 listed of certain called
-  ];
+  wanted = wanted_ahead q source n before after missing listed of certain asks.called;
 }
 
-pub ahead_by : (before after : List Hold) (q : Inquiry) (source : ℕ) (n : Need) → length after ≡ length before → OthersStay source before after
-    → list_needed n < length q.sources.items → source_of q (list_needed n) ≡ source → IsCertainFor q n
-    → AsksAhead n (hold_at before source) (hold_at after source) → (IsWithin (hold_at before source) → IsWithin (hold_at after source)) → LooksAhead before after q
-ahead_by before after q source n long others listed of certain asks within = record {
+pub ahead_by : (before after : List Hold) (q : Inquiry) (source : ℕ) (n : Need) (missing : Bool) → length after ≡ length before → OthersStay source before after
+    → list_needed n < length q.sources.items → source_of q (list_needed n) ≡ source → IsCertainFor q n → AsksAhead n (hold_at before source) (hold_at after source) missing
+    → (IsWithin (hold_at before source) → IsWithin (hold_at after source)) → LooksAhead before after q
+ahead_by before after q source n missing long others listed of certain asks within = record {
   size = long;
   each = λ other. elim (eqb_tells other source) [
     | inl t ↦ subst (λ s. HasForeseen q s (hold_at before s) (hold_at after s)) (sym t.1)
-        (foreseen_by q source n (hold_at before source) (hold_at after source) listed of certain asks within)
+        (foreseen_by q source n (hold_at before source) (hold_at after source) missing listed of certain asks within)
     | inr f ↦ subst (λ (hold : Hold). HasForeseen q other (hold_at before other) hold) (sym (others.stay other f.1)) (foreseen_none q other (hold_at before other))
   ];
   others = λ other absent. others.stay other (λ e. absent (subst (Contains q.sources.items) (of ∙ sym e) (contains_at q.sources.items (list_needed n) 0 listed)));

@@ -20,4 +20,6 @@ mod Steps
 mod Fails
 mod Stands
 pub mod Stops
+pub mod KnowsLaws
 mod Ahead
+mod Foreseen

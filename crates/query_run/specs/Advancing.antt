@@ -26,6 +26,11 @@ pub record KnowsMore (before after : Hold) : Type 0 where
   pub writer : after.pass.1.writer ≡ before.pass.1.writer
   pub within : IsWithin before → IsWithin after
 
+-- a pass later on: of each source it knows at least as much
+pub record KnowsAll (before after : List Hold) : Type 0 where
+  pub size : length after ≡ length before
+  pub each : (source : ℕ) → KnowsMore (hold_at before source) (hold_at after source)
+
 -- what a query of these sources leaves of a pool's pass: it knows at least as much of each source, and what it holds of others stays
 pub record Advances (sources : List ℕ) (before after : List Hold) : Type 0 where
   pub size : length after ≡ length before

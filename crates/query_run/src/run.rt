@@ -3,13 +3,14 @@
 ghost use Rattle.std.specs.Prelude.{◌≡◌, ◌<◌, true, false, None, IfOk, IfSome, OnErr, length};
 ghost use Rattle.source_pool.specs.Passes.{IsPassOf};
 ghost use Rattle.query_core.specs.Ready.{IsReady};
-ghost use Rattle.query_run.specs.Inquiries.{is_ended};
+ghost use Rattle.query_run.specs.Inquiries.{needed, list_needed, is_ended};
 ghost use Rattle.query_run.specs.Endings.{IsRight};
 ghost use Rattle.query_run.specs.Advancing.{WaitsForNothing, HasSourcesIn, Advances};
 ghost use Rattle.query_run.specs.Ran.{Ran, RanSome};
 ghost use Rattle.query_run.specs.Serving.{MayServe, Leaves, ServesAll};
 ghost use Rattle.query_core.specs.Machines.{state_of};
 ghost use Rattle.query_run.specs.Looking.{IsReading, LooksOnce, LooksAhead, LooksAndAhead, HasLooked, HasStopped, wants_memory};
+ghost use Rattle.query_run.specs.Foreseeing.{ForeseesIfFar, HasForeseenBelow};
 
 use super::ended::{Ended, Refusal};
 use super::inquiry::{Inquiry, is_done, list_needed};
@@ -57,6 +58,7 @@ fn foresee<G: Fn(u32) -> bool, H: Fn(u32)>(
     requires wake { H.IsAlwaysCallable wake.now }
     ensures own { IsPassOf pool.now pass.new }
     ensures ahead { LooksAhead pass.old pass.new query.now }
+    ensures asked { ForeseesIfFar (λ source answer. G.post far.now source answer) query.now list pass.old pass.new }
 {
     let source = query.sources[usize::from(list)];
     if !far(source) {
@@ -85,6 +87,7 @@ fn look_ahead<G: Fn(u32) -> bool, H: Fn(u32)>(
     requires wake { H.IsAlwaysCallable wake.now }
     ensures own { IsPassOf pool.now pass.new }
     ensures ahead { LooksAhead pass.old pass.new query.now }
+    ensures asked { HasForeseenBelow (λ source answer. G.post far.now source answer) query.now (state_of query.now.machine).log.lists (list_needed (needed query.now)) pass.old pass.new }
 {
     let needed = list_needed(query.machine.need());
     for list in 0..query.machine.transcript().lists() {

@@ -35,7 +35,6 @@ use Rattle.source_pool.specs.declared.hold.Hold.{Hold}
 use Rattle.source_pool.specs.Looks.{said_in, MayLookFor, HasNoRoom, told_of, Answers, KeepsMarks, KeepsAsks, AddsAsk, HasCalled, GoesOn, BeginsToWait, Ends, Waits, shown_by, KnowsOn, rested, IsGlance, IsTurn, IsWithin}
 use Rattle.source_pool.specs.Holds.{SourcePass}
 use Rattle.source_pool.specs.Seen.{state_seen}
-use Rattle.limits.specs.declared.TheConstants.{MAX_OBJECTS}
 use Rattle.source_state.specs.Log.{rows_in}
 use Rattle.source_pool.specs.declared.remembered.Remembered.{Remembered}
 use Rattle.source_pool.specs.Windows.{row_held, window_after, IsInReach, IsWindowOf}
@@ -80,7 +79,7 @@ told_now : {n : Need} {before after : Hold} {answer : Look} → (t : Turned n be
 told_now {n = n} {before = before} t = ap (λ now. told before.waiting n now) (tally_is t)
 
 -- no room is left
-no_room : (n : Need) (known : Known LogEntry) (s : State) → known.met ≡ s.asks → s.count ≡ known.name.1 → is_full s n ≡ true → HasNoRoom known n
+pub no_room : (n : Need) (known : Known LogEntry) (s : State) → known.met ≡ s.asks → s.count ≡ known.name.1 → is_full s n ≡ true → HasNoRoom known n
 no_room (need.Row list depth) known s met count full = absurd (let bad : false ≡ true = full in cc)
 no_room (need.Grade list object) known s met count full =
     let parts = full_parts s list object full in
@@ -95,7 +94,7 @@ room_on (need.Grade list object) known s met count free out =
     let bad : true ≡ false = sym full ∙ free in absurd (cc)
 room_on need.Done known s met count free out = out
 
-room_begun : (n : Need) (known : Known LogEntry) (s : State) → known.met ≡ (called s n).asks → HasNoRoom known n → ⊥
+pub room_begun : (n : Need) (known : Known LogEntry) (s : State) → known.met ≡ (called s n).asks → HasNoRoom known n → ⊥
 room_begun (need.Row list depth) known s met out = out
 room_begun (need.Grade list object) known s met out = out.absent (subst (λ os. Contains os object) (sym met) (asked_member s object))
 room_begun need.Done known s met out = out

@@ -1,5 +1,5 @@
 -- Windows hold rows of a list at their depths: without rows, as they are filled, and as the list goes on.
-use Rattle.std.proofs.Common.{◌≡◌, ◌≤◌, ◌<◌, ◌+◌, ◌-◌, ◌++◌, ◌∷◌, ◌⊎◌, [], inl, inr, ℕ, Bool, true, false, cond, Option, Some, None, List, length, take, drop, get_or, nat_lt, slice_get, refl, sym, ap, subst, ◌∙◌, arith, le_refl}
+use Rattle.std.proofs.Common.{◌≡◌, ◌≤◌, ◌<◌, ◌+◌, ◌-◌, ◌++◌, ◌∷◌, ◌⊎◌, [], inl, inr, ℕ, Bool, true, false, cond, Some, None, List, length, take, drop, get_or, nat_lt, slice_get, refl, sym, ap, subst, ◌∙◌, arith}
 use Rattle.std.proofs.lemmas.Bool.{cases_Bool, ltb-true}
 use Rattle.std.proofs.lemmas.List.{take-append-drop, take_all, get_or-drop}
 use Rattle.std.proofs.lemmas.List.Elements.{filter_map-append}

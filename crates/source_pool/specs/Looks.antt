@@ -1,5 +1,5 @@
 -- What a look through a pass of a pool answers, and what it changes of what the pass holds of its source.
-use Rattle.std.specs.Prelude.{◌≡◌, ◌≢◌, ◌≤◌, ◌+◌, ◌-◌, ◌⊎◌, ℕ, max, true, false, Option, Some, None, List, [], ◌∷◌, ◌++◌, length, slice_get, Contains}
+use Rattle.std.specs.Prelude.{◌≡◌, ◌≢◌, ◌≤◌, ◌+◌, ◌-◌, ◌⊎◌, ℕ, max, Bool, MatchBool, true, false, Option, Some, None, List, [], ◌∷◌, ◌++◌, length, slice_get, Contains}
 use Rattle.ranked_list.specs.declared.need.Need.{Need}
 use Rattle.ranked_list.specs.declared.need.Need.TheVariants as need
 use Rattle.topk_theory.specs.Bounds.{grade_among}
@@ -195,16 +195,27 @@ pub record IsWithin (hold : Hold) : Type 0 where
   pub shown : AtMost hold.shown hold.pass.1.tally
   pub noted : hold.waiting.need ≢ None → AtMost hold.shown hold.waiting.noted
 
--- a turn that asks for a need to come, in which the pass waits for nothing: the state may have got the want or the ask of this need, the pass knows
--- at least as much, and what it waits for, was shown and remembers stays
-pub record AsksAhead (need : Need) (before after : Hold) : Type 0 where
+-- nothing is there yet of a need to come, and there is room for it: the state has the want or the ask of it
+pub record IsCalledAhead (need : Need) (before after : Hold) : Type 0 where
+  pub undecided : said_in after.pass.1.seen need ≡ None
+  pub room : ¬ HasNoRoom after.pass.1 need
+  pub called : HasCalled need before.pass.1 after.pass.1
+
+-- the log decides the need, or it can't be asked for any more: nothing is asked
+pub record IsNotCalled (need : Need) (before after : Hold) : Type 0 where
+  pub there : ((answer : Look) × (said_in after.pass.1.seen need ≡ Some answer)) ⊎ HasNoRoom after.pass.1 need
+  pub marks : KeepsMarks before.pass.1 after.pass.1
+
+-- a turn that asks for a need to come, in which the pass waits for nothing, and whether it was missing: nothing was there yet, and there was room for
+-- it. The pass knows at least as much, and what it waits for, was shown and remembers stays
+pub record AsksAhead (need : Need) (before after : Hold) (missing : Bool) : Type 0 where
   pub found : State
   pub left : State
   pub agrees : KnowsOf (facts_of found) before.pass.1
   pub gave : after.pass.1 ≡ after_turn (facts_of found) (facts_of left) before.pass.1
   pub sound : IsSound left
   pub knows : KnowsOn before.pass.1 after.pass.1
-  pub called : KeepsMarks before.pass.1 after.pass.1 ⊎ HasCalled need before.pass.1 after.pass.1
+  pub called : MatchBool missing (IsCalledAhead need before after) (IsNotCalled need before after)
   pub waits : after.waiting ≡ before.waiting
   pub shown : after.shown ≡ before.shown
   pub remembers : after.remembered ≡ before.remembered

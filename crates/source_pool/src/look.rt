@@ -82,8 +82,8 @@ fn look_in_turn(rt: &impl Wait, lock: &TurnLock<SourceState>, hold: &mut Hold, n
     answer
 }
 
-/// Asks for a need to come, in one turn: where nothing is there yet, the state has the want or the ask of it then. The pass waits for nothing.
-/// Whether nothing is there yet.
+/// Asks for a need to come, in one turn: where nothing is there yet, and there is room to ask for it, the state has the want or the ask of it then.
+/// The pass waits for nothing. Whether it is asked for.
 pub fn look_ahead(rt: &impl Wait, lock: &TurnLock<SourceState>, hold: &mut Hold, need: Need) -> bool
     requires own { IsFree lock.now hold.old.pass }
     requires need { MayLookFor hold.old.pass.1 need }
@@ -91,7 +91,7 @@ pub fn look_ahead(rt: &impl Wait, lock: &TurnLock<SourceState>, hold: &mut Hold,
     ensures own { IsFree lock.now hold.new.pass }
     ensures sound { IsSound (state_seen hold.new.pass.1) }
     ensures remembers { Remembers hold.new.pass.1.seen hold.new.remembered }
-    ensures asks { AsksAhead need hold.old hold.new }
+    ensures asks { AsksAhead need hold.old hold.new result }
     ensures within { IsWithin hold.old → IsWithin hold.new }
 {
     let mut state = lock.take(rt, &mut hold.pass);

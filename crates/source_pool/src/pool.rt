@@ -125,9 +125,9 @@ impl Pool {
         pass.holds[source as usize].remembered.rows.row(need)
     }
 
-    /// Asks a source for what a query comes to need of it, in one turn of the source's lock, for which it may wait. Where nothing is there yet the
-    /// source has the want of the row or the ask of the grade then. The pass waits for nothing, and no fail is told. Whether nothing is there yet:
-    /// who serves the source may be woken then.
+    /// Asks a source for what a query comes to need of it, in one turn of the source's lock, for which it may wait. Where nothing is there yet, and
+    /// there is room to ask for it, the source has the want of the row or the ask of the grade then; else nothing is asked. The pass waits for
+    /// nothing, and no fail is told. Whether it is asked for: who serves the source may be woken then.
     ///
     /// *Cost*: one turn of the source's lock, and one `look_at` in it; no memory.
     pub fn foresee(&self, rt: &impl Wait, pass: &mut PoolPass, source: u32, need: Need) -> bool
@@ -136,7 +136,7 @@ impl Pool {
         requires need { MayLookFor (hold_at pass.old source).pass.1 need }
         ensures own { IsPassOf self.now pass.new }
         ensures others { OthersStay source pass.old pass.new }
-        ensures asks { AsksAhead need (hold_at pass.old source) (hold_at pass.new source) }
+        ensures asks { AsksAhead need (hold_at pass.old source) (hold_at pass.new source) result }
         ensures within { IsWithin (hold_at pass.old source) → IsWithin (hold_at pass.new source) }
     {
         let lock = &self.locks[source as usize];

@@ -1,4 +1,4 @@
-use Rattle.std.proofs.Common.{◌≡◌, Option, Some, None, inl, inr, subst}
+use Rattle.std.proofs.Common.{◌≡◌, Option, Some, inl, inr, subst}
 use Rattle.std.specs.Option.{IfSome}
 use Rattle.ranked_list.specs.declared.need.Need.{Need}
 use Rattle.source_state.specs.declared.look.Look.{Look}

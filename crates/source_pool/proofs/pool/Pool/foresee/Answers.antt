@@ -11,7 +11,7 @@ pub returns-clause-others : goal.returns-clause-others
 returns-clause-others g c = others_given c.args.pass.now c.pass.inside.holds.items c.args.source _ c.pass.view_is
 
 pub returns-clause-asks : goal.returns-clause-asks
-returns-clause-asks g c = changed_there (λ before after. AsksAhead c.args.need before after) c.args.self.now c.args.pass.now c.pass.inside.holds.items c.args.source _ _ c.pass.view_is
+returns-clause-asks g c = changed_there (λ before after. AsksAhead c.args.need before after c.look_ahead-open.result) c.args.self.now c.args.pass.now c.pass.inside.holds.items c.args.source _ _ c.pass.view_is
     c.requires.own c.requires.source c.index_mut.ensures.value c.look_ahead-open.ensures.asks
 
 pub returns-clause-within : goal.returns-clause-within
