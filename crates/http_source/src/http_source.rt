@@ -105,82 +105,6 @@ impl<D: Dial + Drop> HttpSource<D> {
     {
         self.version
     }
-
-    /// Asks for the number of rows, which may be any. The version that the reply states is the one at
-    /// hand from then on.
-    pub fn ask_size(&mut self, alloc: Global) -> Result<u64, Trouble>
-        ensures answers { IfSome (next_bytes (D.links self.old.dial)) (λ bytes. AnswersSize bytes self.new.version result) }
-        ensures unlinked { D.links self.old.dial ≡ Some [] → IsUnanswered result }
-        ensures failed { FailsWith (D.faults self.old.dial) (D.faults self.new.dial) result }
-        ensures link { UsesLink (request_of self.old size_tail)
-            (D.links self.old.dial) (D.links self.new.dial) (D.closed self.old.dial) (D.closed self.new.dial) result }
-        ensures after { self.new ≡ record self.old {
-          dial = self.new.dial;
-          version = self.new.version;
-          counted = size_counted result self.old.counted;
-        } }
-        ensures kept { OnErr result (self.new.version ≡ self.old.version) }
-        ensures unmoved { IfErr result IsNoMove }
-        ensures later { NoneFell (counts_with (D.faults self.old.dial) self.old.counted) (counts_with (D.faults self.new.dial) self.new.counted) }
-        ensures cause { IfErr result (TroubleHasCause (counts_with (D.faults self.old.dial) self.old.counted) (counts_with (D.faults self.new.dial) self.new.counted)) }
-        ensures alone { IfErr result (CountsAlone (counts_with (D.faults self.old.dial) self.old.counted) (counts_with (D.faults self.new.dial) self.new.counted)) }
-        ensures given { GaveNothing (counts_with (D.faults self.old.dial) self.old.counted) (counts_with (D.faults self.new.dial) self.new.counted) }
-        ensures quiet { OnOk result (counts_with (D.faults self.new.dial) self.new.counted ≡ counts_with (D.faults self.old.dial) self.old.counted) }
-    {
-        let answer = ask_size(alloc, &mut self.dial, &self.place, &mut self.version);
-        self.counted = after_size(self.counted, &answer);
-        answer
-    }
-
-    /// Asks for rows, at most `count` of them, at the version at hand.
-    pub fn ask_page(&mut self, alloc: Global, from: u32, count: u32) -> Result<Vec<Row>, Trouble>
-        ensures answers { IfSome (next_bytes (D.links self.old.dial)) (λ bytes. AnswersPage bytes self.old.version count result) }
-        ensures unlinked { D.links self.old.dial ≡ Some [] → IsUnanswered result }
-        ensures failed { FailsWith (D.faults self.old.dial) (D.faults self.new.dial) result }
-        ensures link { UsesLink (request_of self.old (page_tail from count))
-            (D.links self.old.dial) (D.links self.new.dial) (D.closed self.old.dial) (D.closed self.new.dial) result }
-        ensures after { self.new ≡ record self.old { dial = self.new.dial; counted = page_counted result self.old.counted } }
-        ensures bound { IfOk result (λ page. vec_len page ≤ count) }
-        ensures later { NoneFell (counts_with (D.faults self.old.dial) self.old.counted) (counts_with (D.faults self.new.dial) self.new.counted) }
-        ensures cause { IfErr result (TroubleHasCause (counts_with (D.faults self.old.dial) self.old.counted) (counts_with (D.faults self.new.dial) self.new.counted)) }
-        ensures alone { IfErr result (CountsAlone (counts_with (D.faults self.old.dial) self.old.counted) (counts_with (D.faults self.new.dial) self.new.counted)) }
-        ensures given { IfOk result (λ page. GaveRows (vec_len page) (counts_with (D.faults self.old.dial) self.old.counted) (counts_with (D.faults self.new.dial) self.new.counted)) }
-        ensures gave_nothing { OnErr result (GaveNothing (counts_with (D.faults self.old.dial) self.old.counted) (counts_with (D.faults self.new.dial) self.new.counted)) }
-        ensures quiet { IfOk result (λ page. counts_with (D.faults self.new.dial) self.new.counted ≡ gave_rows (vec_len page) (counts_with (D.faults self.old.dial) self.old.counted)) }
-        ensures moved { IfErr result (MovedHasCause self.old.version None) }
-    {
-        let answer = ask_page(
-            alloc,
-            &mut self.dial,
-            &self.place,
-            self.version,
-            from,
-            count,
-        );
-        self.counted = after_page(self.counted, &answer);
-        answer
-    }
-
-    /// Asks for the grade of an object at the version at hand.
-    pub fn ask_grade(&mut self, alloc: Global, object: u32) -> Result<Option<u32>, Trouble>
-        ensures answers { IfSome (next_bytes (D.links self.old.dial)) (λ bytes. AnswersGrade bytes self.old.version result) }
-        ensures unlinked { D.links self.old.dial ≡ Some [] → IsUnanswered result }
-        ensures failed { FailsWith (D.faults self.old.dial) (D.faults self.new.dial) result }
-        ensures link { UsesLink (request_of self.old (grade_tail object))
-            (D.links self.old.dial) (D.links self.new.dial) (D.closed self.old.dial) (D.closed self.new.dial) result }
-        ensures after { self.new ≡ record self.old { dial = self.new.dial; counted = grade_counted result self.old.counted } }
-        ensures later { NoneFell (counts_with (D.faults self.old.dial) self.old.counted) (counts_with (D.faults self.new.dial) self.new.counted) }
-        ensures cause { IfErr result (TroubleHasCause (counts_with (D.faults self.old.dial) self.old.counted) (counts_with (D.faults self.new.dial) self.new.counted)) }
-        ensures alone { IfErr result (CountsAlone (counts_with (D.faults self.old.dial) self.old.counted) (counts_with (D.faults self.new.dial) self.new.counted)) }
-        ensures given { OnOk result (GaveGrade (counts_with (D.faults self.old.dial) self.old.counted) (counts_with (D.faults self.new.dial) self.new.counted)) }
-        ensures gave_nothing { OnErr result (GaveNothing (counts_with (D.faults self.old.dial) self.old.counted) (counts_with (D.faults self.new.dial) self.new.counted)) }
-        ensures quiet { OnOk result (counts_with (D.faults self.new.dial) self.new.counted ≡ gave_grade (counts_with (D.faults self.old.dial) self.old.counted)) }
-        ensures moved { IfErr result (MovedHasCause self.old.version None) }
-    {
-        let answer = ask_grade(alloc, &mut self.dial, &self.place, self.version, object);
-        self.counted = after_grade(self.counted, &answer);
-        answer
-    }
 }
 
 /// A place of the same host, port and path.
@@ -210,19 +134,80 @@ impl<D: Dial + Send + Drop> Source for HttpSource<D> {
 
     ghost states = { λ _. None };
 
-    /// Asks for the number of rows, as `ask_size` does.
-    fn size(&mut self, alloc: Global) -> Result<u64, Trouble> {
-        self.ask_size(alloc)
+    /// Asks for the number of rows, which may be any. The version that the reply states is the one at
+    /// hand from then on.
+    fn size(&mut self, alloc: Global) -> Result<u64, Trouble>
+        ensures answers { IfSome (next_bytes (D.links self.old.dial)) (λ bytes. AnswersSize bytes self.new.version result) }
+        ensures unlinked { D.links self.old.dial ≡ Some [] → IsUnanswered result }
+        ensures failed { FailsWith (D.faults self.old.dial) (D.faults self.new.dial) result }
+        ensures link { UsesLink (request_of self.old size_tail)
+            (D.links self.old.dial) (D.links self.new.dial) (D.closed self.old.dial) (D.closed self.new.dial) result }
+        ensures after { self.new ≡ record self.old {
+          dial = self.new.dial;
+          version = self.new.version;
+          counted = size_counted result self.old.counted;
+        } }
+        ensures kept { OnErr result (self.new.version ≡ self.old.version) }
+        ensures unmoved { IfErr result IsNoMove }
+        ensures later { NoneFell (counts_with (D.faults self.old.dial) self.old.counted) (counts_with (D.faults self.new.dial) self.new.counted) }
+        ensures cause { IfErr result (TroubleHasCause (counts_with (D.faults self.old.dial) self.old.counted) (counts_with (D.faults self.new.dial) self.new.counted)) }
+        ensures alone { IfErr result (CountsAlone (counts_with (D.faults self.old.dial) self.old.counted) (counts_with (D.faults self.new.dial) self.new.counted)) }
+        ensures given { GaveNothing (counts_with (D.faults self.old.dial) self.old.counted) (counts_with (D.faults self.new.dial) self.new.counted) }
+        ensures quiet { OnOk result (counts_with (D.faults self.new.dial) self.new.counted ≡ counts_with (D.faults self.old.dial) self.old.counted) }
+    {
+        let answer = ask_size(alloc, &mut self.dial, &self.place, &mut self.version);
+        self.counted = after_size(self.counted, &answer);
+        answer
     }
 
-    /// Asks for rows, as `ask_page` does.
-    fn page(&mut self, alloc: Global, from: u32, count: u32) -> Result<Vec<Row>, Trouble> {
-        self.ask_page(alloc, from, count)
+    /// Asks for rows, at most `count` of them, at the version at hand.
+    fn page(&mut self, alloc: Global, from: u32, count: u32) -> Result<Vec<Row>, Trouble>
+        ensures answers { IfSome (next_bytes (D.links self.old.dial)) (λ bytes. AnswersPage bytes self.old.version count result) }
+        ensures unlinked { D.links self.old.dial ≡ Some [] → IsUnanswered result }
+        ensures failed { FailsWith (D.faults self.old.dial) (D.faults self.new.dial) result }
+        ensures link { UsesLink (request_of self.old (page_tail from count))
+            (D.links self.old.dial) (D.links self.new.dial) (D.closed self.old.dial) (D.closed self.new.dial) result }
+        ensures after { self.new ≡ record self.old { dial = self.new.dial; counted = page_counted result self.old.counted } }
+        ensures bound { IfOk result (λ page. vec_len page ≤ count) }
+        ensures later { NoneFell (counts_with (D.faults self.old.dial) self.old.counted) (counts_with (D.faults self.new.dial) self.new.counted) }
+        ensures cause { IfErr result (TroubleHasCause (counts_with (D.faults self.old.dial) self.old.counted) (counts_with (D.faults self.new.dial) self.new.counted)) }
+        ensures alone { IfErr result (CountsAlone (counts_with (D.faults self.old.dial) self.old.counted) (counts_with (D.faults self.new.dial) self.new.counted)) }
+        ensures given { IfOk result (λ page. GaveRows (vec_len page) (counts_with (D.faults self.old.dial) self.old.counted) (counts_with (D.faults self.new.dial) self.new.counted)) }
+        ensures gave_nothing { OnErr result (GaveNothing (counts_with (D.faults self.old.dial) self.old.counted) (counts_with (D.faults self.new.dial) self.new.counted)) }
+        ensures quiet { IfOk result (λ page. counts_with (D.faults self.new.dial) self.new.counted ≡ gave_rows (vec_len page) (counts_with (D.faults self.old.dial) self.old.counted)) }
+        ensures moved { IfErr result (MovedHasCause self.old.version None) }
+    {
+        let answer = ask_page(
+            alloc,
+            &mut self.dial,
+            &self.place,
+            self.version,
+            from,
+            count,
+        );
+        self.counted = after_page(self.counted, &answer);
+        answer
     }
 
-    /// Asks for the grade of an object, as `ask_grade` does.
-    fn grade(&mut self, alloc: Global, object: u32) -> Result<Option<u32>, Trouble> {
-        self.ask_grade(alloc, object)
+    /// Asks for the grade of an object at the version at hand.
+    fn grade(&mut self, alloc: Global, object: u32) -> Result<Option<u32>, Trouble>
+        ensures answers { IfSome (next_bytes (D.links self.old.dial)) (λ bytes. AnswersGrade bytes self.old.version result) }
+        ensures unlinked { D.links self.old.dial ≡ Some [] → IsUnanswered result }
+        ensures failed { FailsWith (D.faults self.old.dial) (D.faults self.new.dial) result }
+        ensures link { UsesLink (request_of self.old (grade_tail object))
+            (D.links self.old.dial) (D.links self.new.dial) (D.closed self.old.dial) (D.closed self.new.dial) result }
+        ensures after { self.new ≡ record self.old { dial = self.new.dial; counted = grade_counted result self.old.counted } }
+        ensures later { NoneFell (counts_with (D.faults self.old.dial) self.old.counted) (counts_with (D.faults self.new.dial) self.new.counted) }
+        ensures cause { IfErr result (TroubleHasCause (counts_with (D.faults self.old.dial) self.old.counted) (counts_with (D.faults self.new.dial) self.new.counted)) }
+        ensures alone { IfErr result (CountsAlone (counts_with (D.faults self.old.dial) self.old.counted) (counts_with (D.faults self.new.dial) self.new.counted)) }
+        ensures given { OnOk result (GaveGrade (counts_with (D.faults self.old.dial) self.old.counted) (counts_with (D.faults self.new.dial) self.new.counted)) }
+        ensures gave_nothing { OnErr result (GaveNothing (counts_with (D.faults self.old.dial) self.old.counted) (counts_with (D.faults self.new.dial) self.new.counted)) }
+        ensures quiet { OnOk result (counts_with (D.faults self.new.dial) self.new.counted ≡ gave_grade (counts_with (D.faults self.old.dial) self.old.counted)) }
+        ensures moved { IfErr result (MovedHasCause self.old.version None) }
+    {
+        let answer = ask_grade(alloc, &mut self.dial, &self.place, self.version, object);
+        self.counted = after_grade(self.counted, &answer);
+        answer
     }
 
     /// The version that the last answer of `size` stated, 0 before one.

@@ -13,13 +13,14 @@ use Rattle.source_api.specs.declared.source.Trouble.{Trouble}
 use Rattle.source_api.specs.declared.source.FailKind.TheVariants as kind
 use Rattle.source_api.specs.declared.source.Trouble.TheVariants as trouble
 use Rattle.source_api.specs.Calls.{Call}
-use Rattle.source_api.specs.Counting.{gave_rows, gave_grade}
+use Rattle.source_api.specs.Counting.{TroubleHasCause, gave_rows, gave_grade}
 use Rattle.source_node.specs.Asking.{OnRoute, on_route, by_parts, route_of, routed, asked_at, asked_of, AsksAt, AsksFor, HasCount}
-use Rattle.source_node.specs.Serving.{Seen, Fails, IsQuiet, given_by}
-use Rattle.source_node.specs.Connections.{Visit, IsTroubled, Serving, ServesAsked, Serves, ServesHeard, asks_head, status_in, reply_of, Sends, IsServed, Ends}
+use Rattle.source_node.specs.Serving.{Seen, Answers, Fails, IsQuiet, given_by}
+use Rattle.source_node.specs.Connections.{Visit, IsTroubled, IsFailed, IsStarved, StarvesAt, Serving, ServesAsked, Serves, ServesHeard, asks_head, status_in, reply_of, Sends, IsServed, Ends}
 use Rattle.wire.specs.Targets.{Parts, parts_of}
 use Rattle.wire.specs.Writing.{reply_text}
 use Rattle.wire.specs.declared.writing.Kind.TheVariants.{Text, Json}
+use Rattle.source_node.specs.declared.answer.Answer.{Answer}
 use Rattle.source_node.specs.declared.asked.Asked.{Asked}
 use Rattle.source_node.specs.declared.asked.Route.{Route}
 use Rattle.source_node.specs.declared.node.ConnEnd.{ConnEnd}
@@ -40,12 +41,31 @@ quiet_given (Call.Grade object (Ok grade) ∷ calls) counts =
     quiet_then counts (gave_grade counts) (given_by calls (gave_grade counts)) record { faults = refl; garbles = refl; moves = refl } (quiet_given calls (gave_grade counts))
 quiet_given (Call.Grade object (Err why) ∷ calls) counts = quiet_given calls counts
 
--- a call that failed, and not for want of memory, raised a count
-pub troubled : (before now : Counts) (why : Trouble) → Fails before now why → (why ≡ trouble.Fail kind.Memory → ⊥) → IsTroubled before now
-troubled before now (trouble.Fail kind.Failed) fails other = inl fails.cause
-troubled before now (trouble.Fail kind.Garbled) fails other = inr (inl fails.cause)
-troubled before now (trouble.Fail kind.Memory) fails other = absurd (other refl)
-troubled before now (trouble.Moved had then) fails other = inr (inr fails.cause)
+-- a source that gave no answer, and not for want of memory, raised a count
+pub troubled : (asked : Asked) (before now : Seen) (why : Trouble) → Fails asked before now why → (why ≡ trouble.Fail kind.Memory → ⊥) → IsFailed asked before now
+troubled asked before now why fails other = record { why = why; fails = fails; troubled = by why fails.cause other }
+  where
+    by : (why : Trouble) → TroubleHasCause before.counts now.counts why → (why ≡ trouble.Fail kind.Memory → ⊥) → IsTroubled before.counts now.counts
+    by (trouble.Fail kind.Failed) cause other = inl cause
+    by (trouble.Fail kind.Garbled) cause other = inr (inl cause)
+    by (trouble.Fail kind.Memory) cause other = absurd (other refl)
+    by (trouble.Moved had then) cause other = inr (inr cause)
+
+-- no memory was left while a source was asked
+pub starved_asking : (asked : Asked) (before now : Seen) (why : Trouble) → Fails asked before now why → why ≡ trouble.Fail kind.Memory → IsStarved asked before now
+starved_asking asked before now why fails is =
+    let wants : Fails asked before now (trouble.Fail kind.Memory) = subst (Fails asked before now) is fails in
+    record { asks = inl wants; quiet = subst (λ (c : Counts). IsQuiet before.counts c) (sym wants.alone) (quiet_given wants.calls before.counts) }
+
+-- no memory was left for the text of an answer
+pub starved_writing : (asked : Asked) (before now : Seen) (answer : Answer) → Answers asked before now answer → IsStarved asked before now
+starved_writing asked before now answer answers =
+    record { asks = inr (answer, answers); quiet = subst (λ (c : Counts). IsQuiet before.counts c) (sym answers.counted) (quiet_given answers.calls before.counts) }
+
+-- a source that wasn't asked
+unasked : (at : Result Asked Refusal) (before : Seen) → StarvesAt at before before
+unasked (Ok asked) before = inl refl
+unasked (Err why) before = refl
 
 -- what is asked stands on a route
 stands : (at : Result OnRoute Refusal) (asked : Asked) → Ok asked ≡ asked_at at → IsOk at
@@ -91,7 +111,8 @@ serves_asked name method target version before now asked (Ok body) is count serv
     subst (λ (a : Result Asked Refusal). ServesAsked version a before now (Ok body)) is (count, serving)
 serves_asked name method target version before now asked (Err SourceFailed) is count serving =
     subst (λ (a : Result Asked Refusal). ServesAsked version a before now (Err SourceFailed)) is (count, serving)
-serves_asked name method target version before now asked (Err NoMemory) is count serving = (stands (routed name method target) asked is, serving)
+serves_asked name method target version before now asked (Err NoMemory) is count serving =
+    (stands (routed name method target) asked is, subst (λ (a : Result Asked Refusal). StarvesAt a before now) is (inr (count, serving)))
 serves_asked name method target version before now asked (Err TooLarge) is count serving = absurd serving
 serves_asked name method target version before now asked (Err BadRequest) is count serving = absurd serving
 serves_asked name method target version before now asked (Err NotFound) is count serving = absurd serving
@@ -100,7 +121,7 @@ serves_asked name method target version before now asked (Err MethodNotAllowed) 
 -- a head that is refused is served without a call of the source
 pub serves_refused : (name method target : List ℕ) (version : Option ℕ) (before : Seen) (why : Refusal) → AsksFor name method target (Err why)
     → Serves name version method target before before (Err why)
-serves_refused name method target version before NoMemory asks = (asks, quiet_same before.counts before.counts refl)
+serves_refused name method target version before NoMemory asks = (asks, unasked (asked_of name method target) before)
 serves_refused name method target version before TooLarge asks = subst (λ (a : Result Asked Refusal). ServesAsked version a before before (Err TooLarge)) asks (refl, refl)
 serves_refused name method target version before BadRequest asks = subst (λ (a : Result Asked Refusal). ServesAsked version a before before (Err BadRequest)) asks (refl, refl)
 serves_refused name method target version before NotFound asks = subst (λ (a : Result Asked Refusal). ServesAsked version a before before (Err NotFound)) asks (refl, refl)

@@ -11,7 +11,8 @@ use Rattle.source_api.specs.declared.source.Trouble.TheVariants as trouble
 use Rattle.source_api.specs.Calls.{Call, with_call}
 use Rattle.source_api.specs.Counting.{NoneFell, TroubleHasCause, CountsAlone, gave_rows, gave_grade}
 use Rattle.source_api.specs.Told.{IsPage}
-use Rattle.source_node.specs.Serving.{with_calls, given_by, IfAny, InTurn, IsQuiet, Fails, GivesPage, GivesRows, GivesSome}
+use Rattle.source_node.specs.declared.asked.Asked.TheVariants as asked
+use Rattle.source_node.specs.Serving.{Seen, with_calls, given_by, IfAny, InTurn, StopsInTurn, IsQuiet, Fails, GivesPage, GivesRows, StopsRows, GivesSome}
 
 -- one call is noted as a list of one
 pub noted_one : (call : Call) (calls : Option (List Call)) → with_call call calls ≡ with_calls (call ∷ []) calls
@@ -23,19 +24,23 @@ pub noted_none : (calls : Option (List Call)) → calls ≡ with_calls [] calls
 noted_none None = refl
 noted_none (Some calls) = ap Some (sym (append-nil calls))
 
+-- calls are noted behind others
+pub noted_then : (made more : List Call) (calls : Option (List Call)) → with_calls more (with_calls made calls) ≡ with_calls (made ++ more) calls
+noted_then made more None = refl
+noted_then made more (Some calls) = ap Some (append_assoc calls made more)
+
 -- one call more is noted behind others
 pub noted_more : (made : List Call) (call : Call) (calls : Option (List Call)) → with_call call (with_calls made calls) ≡ with_calls (made ++ call ∷ []) calls
-noted_more made call None = refl
-noted_more made call (Some calls) = ap Some (append_assoc calls made (call ∷ []))
+noted_more made call calls = noted_one call (with_calls made calls) ∙ noted_then made (call ∷ []) calls
 
--- one call more counts behind others
-pub given_more : (made : List Call) (call : Call) (counts : Counts) → given_by (made ++ call ∷ []) counts ≡ given_by (call ∷ []) (given_by made counts)
-given_more [] call counts = refl
-given_more (Call.Size answer ∷ made) call counts = given_more made call counts
-given_more (Call.Page from count (Ok page) ∷ made) call counts = given_more made call (gave_rows (length page) counts)
-given_more (Call.Page from count (Err why) ∷ made) call counts = given_more made call counts
-given_more (Call.Grade object (Ok grade) ∷ made) call counts = given_more made call (gave_grade counts)
-given_more (Call.Grade object (Err why) ∷ made) call counts = given_more made call counts
+-- calls count behind others
+pub given_then : (made more : List Call) (counts : Counts) → given_by (made ++ more) counts ≡ given_by more (given_by made counts)
+given_then [] more counts = refl
+given_then (Call.Size answer ∷ made) more counts = given_then made more counts
+given_then (Call.Page from count (Ok page) ∷ made) more counts = given_then made more (gave_rows (length page) counts)
+given_then (Call.Page from count (Err why) ∷ made) more counts = given_then made more counts
+given_then (Call.Grade object (Ok grade) ∷ made) more counts = given_then made more (gave_grade counts)
+given_then (Call.Grade object (Err why) ∷ made) more counts = given_then made more counts
 
 -- no trouble was counted in two steps
 pub quiet_then : (a b c : Counts) → IsQuiet a b → IsQuiet b c → IsQuiet a c
@@ -61,25 +66,103 @@ quiet_same before now is = record {
   moves = ap (λ (c : Counts). c.moves) is;
 }
 
--- a call that failed
-pub fails_of : (before now : Counts) (why : Trouble) → TroubleHasCause before now why → CountsAlone before now why → Fails before now why
-fails_of before now (trouble.Fail kind.Failed) cause alone = record { cause = cause; quiet = λ is. absurd cc }
-fails_of before now (trouble.Fail kind.Garbled) cause alone = record { cause = cause; quiet = λ is. absurd cc }
-fails_of before now (trouble.Fail kind.Memory) cause alone = record { cause = cause; quiet = λ is. quiet_same before now alone }
-fails_of before now (trouble.Moved had other) cause alone = record { cause = cause; quiet = λ is. absurd cc }
+-- where a page is empty or not, what follows is said of it
+either : (page : List Row) (A B : Type 0) → A → B → IfAny page A B
+either [] A B a b = b
+either (row ∷ page) A B a b = a
 
--- a call that failed behind others that didn't
-pub fails_later : (a b c : Counts) (why : Trouble) → IsQuiet a b → Fails b c why → Fails a c why
-fails_later a b c why first fails = record {
-  cause = cause_later why fails.cause;
-  quiet = λ is. quiet_then a b c first (fails.quiet is);
+-- a page was asked for and didn't come
+pub page_stopped : (from count : ℕ) (counts counts_now : Counts) (calls calls_now : Option (List Call)) (why : Trouble)
+    → calls_now ≡ with_call (Call.Page from count (Err why)) calls → TroubleHasCause counts counts_now why → CountsAlone counts counts_now why
+    → StopsRows from count counts counts_now calls calls_now why
+page_stopped from count counts counts_now calls calls_now why noted cause alone = record {
+  made = Call.Page from count (Err why) ∷ [];
+  in_turn = inl (refl, refl);
+  noted = noted ∙ noted_one (Call.Page from count (Err why)) calls;
+  cause = cause;
+  alone = alone;
 }
-  where
-    cause_later : (why : Trouble) → TroubleHasCause b c why → TroubleHasCause a c why
-    cause_later (trouble.Fail kind.Failed) cause = let same = first.faults in omega (arith, same, cause)
-    cause_later (trouble.Fail kind.Garbled) cause = let same = first.garbles in omega (arith, same, cause)
-    cause_later (trouble.Fail kind.Memory) cause = tt
-    cause_later (trouble.Moved had other) cause = let same = first.moves in omega (arith, same, cause)
+
+-- a page came, and no memory was left for its rows
+pub page_starved : (from count : ℕ) (page : List Row) (counts counts_now : Counts) (calls calls_now : Option (List Call))
+    → calls_now ≡ with_call (Call.Page from count (Ok page)) calls → counts_now ≡ gave_rows (length page) counts
+    → StopsRows from count counts counts_now calls calls_now (trouble.Fail kind.Memory)
+page_starved from count page counts counts_now calls calls_now noted counted = record {
+  made = Call.Page from count (Ok page) ∷ [];
+  in_turn =
+      let none : List Call = [] in
+      inr (
+        page,
+        refl,
+        either page (StopsInTurn (from + length page) (count - length page) (trouble.Fail kind.Memory) none)
+            ((none ≡ []) × (trouble.Fail kind.Memory ≡ trouble.Fail kind.Memory)) refl (refl, refl),
+      );
+  noted = noted ∙ noted_one (Call.Page from count (Ok page)) calls;
+  cause = tt;
+  alone = counted;
+}
+
+-- the cause of a trouble, behind calls that counted none
+cause_later : (a b c : Counts) (why : Trouble) → IsQuiet a b → TroubleHasCause b c why → TroubleHasCause a c why
+cause_later a b c (trouble.Fail kind.Failed) quiet cause = let same = quiet.faults in omega (arith, same, cause)
+cause_later a b c (trouble.Fail kind.Garbled) quiet cause = let same = quiet.garbles in omega (arith, same, cause)
+cause_later a b c (trouble.Fail kind.Memory) quiet cause = tt
+cause_later a b c (trouble.Moved had other) quiet cause = let same = quiet.moves in omega (arith, same, cause)
+
+-- pages in turn came, and the next one didn't
+pub stops_later : (from count : ℕ) (list : Option (List Row)) (counts counts_now counts_next : Counts) (calls calls_now calls_next : Option (List Call)) (rows : List Row) (why : Trouble)
+    → GivesSome from count list counts counts_now calls calls_now rows
+    → StopsRows (from + length rows) (count - length rows) counts_now counts_next calls_now calls_next why
+    → StopsRows from count counts counts_next calls calls_next why
+stops_later from count list counts counts_now counts_next calls calls_now calls_next rows why had stops = record {
+  made = had.made ++ stops.made;
+  in_turn = had.stops_on stops.made why stops.in_turn;
+  noted = stops.noted ∙ ap (with_calls stops.made) had.noted ∙ noted_then had.made stops.made calls;
+  cause = cause_later counts counts_now counts_next why had.quiet stops.cause;
+  alone = subst (λ (c : Counts). CountsAlone c counts_next why) (ap (given_by stops.made) had.counted ∙ sym (given_then had.made stops.made counts)) stops.alone;
+}
+
+-- the same by equal places
+pub stops_as : (p q n m : ℕ) (counts counts_now : Counts) (calls calls_now : Option (List Call)) (why : Trouble) → p ≡ q → n ≡ m
+    → StopsRows p n counts counts_now calls calls_now why → StopsRows q m counts counts_now calls calls_now why
+stops_as p q n m counts counts_now calls calls_now why place left stops =
+    subst (λ k. StopsRows k m counts counts_now calls calls_now why) place (subst (λ k. StopsRows p k counts counts_now calls calls_now why) left stops)
+
+-- a page of which all rows were asked for and didn't come
+pub rows_failed : (from count : ℕ) (before now : Seen) (why : Trouble) → StopsRows from count before.counts now.counts before.calls now.calls why
+    → now.at_hand ≡ before.at_hand → Fails (asked.Page from count) before now why
+rows_failed from count before now why stops same = record {
+  calls = stops.made;
+  stopped = stops.in_turn;
+  noted = stops.noted;
+  cause = stops.cause;
+  alone = stops.alone;
+  at_hand = same;
+}
+
+-- a call for the size that gave no answer
+pub size_failed : (before now : Seen) (why : Trouble) → now.calls ≡ with_call (Call.Size (Err why)) before.calls → TroubleHasCause before.counts now.counts why
+    → CountsAlone before.counts now.counts why → now.at_hand ≡ before.at_hand → Fails asked.Size before now why
+size_failed before now why noted cause alone same = record {
+  calls = Call.Size (Err why) ∷ [];
+  stopped = refl;
+  noted = noted ∙ noted_one (Call.Size (Err why)) before.calls;
+  cause = cause;
+  alone = alone;
+  at_hand = same;
+}
+
+-- a call for a grade that gave no answer
+pub grade_failed : (object : ℕ) (before now : Seen) (why : Trouble) → now.calls ≡ with_call (Call.Grade object (Err why)) before.calls
+    → TroubleHasCause before.counts now.counts why → CountsAlone before.counts now.counts why → now.at_hand ≡ before.at_hand → Fails (asked.Grade object) before now why
+grade_failed object before now why noted cause alone same = record {
+  calls = Call.Grade object (Err why) ∷ [];
+  stopped = refl;
+  noted = noted ∙ noted_one (Call.Grade object (Err why)) before.calls;
+  cause = cause;
+  alone = alone;
+  at_hand = same;
+}
 
 -- no count falls where none changes, and in two steps
 pub fell_none : (c : Counts) → NoneFell c c
@@ -107,6 +190,10 @@ none_given from count list counts calls = record {
       let place : from + 0 ≡ from = omega arith in
       let left : count - 0 ≡ count = omega arith in
       subst (λ n. InTurn n count more rest) place (subst (λ n. InTurn (from + 0) n more rest) left h);
+  stops_on = λ more why h.
+      let place : from + 0 ≡ from = omega arith in
+      let left : count - 0 ≡ count = omega arith in
+      subst (λ n. StopsInTurn n count why more) place (subst (λ n. StopsInTurn (from + 0) n why more) left h);
   few = omega arith;
   noted = noted_none calls;
   counted = refl;
@@ -146,9 +233,16 @@ some_given from count list counts counts_now counts_next calls calls_now calls_n
           let whole = had.goes_on (call ∷ more) (came.page ++ rest) (came.page, rest, refl, refl, any came.page (InTurn ((from + length rows) + length came.page) ((count - length rows) - length came.page) more rest) ((more ≡ []) × (rest ≡ [])) nonempty below) in
           subst (λ (cs : List Call). InTurn from count cs ((rows ++ came.page) ++ rest)) (sym (append_assoc had.made (call ∷ []) more))
           (subst (λ (xs : List Row). InTurn from count (had.made ++ call ∷ more) xs) (sym (append_assoc rows came.page rest)) whole);
+      stops_on = λ more why h.
+          let first : (from + length rows) + length came.page ≡ from + length (rows ++ came.page) = omega (arith, long) in
+          let left : (count - length rows) - length came.page ≡ count - length (rows ++ came.page) = omega (arith, long) in
+          let below : StopsInTurn ((from + length rows) + length came.page) ((count - length rows) - length came.page) why more =
+          subst (λ n. StopsInTurn n ((count - length rows) - length came.page) why more) (sym first) (subst (λ n. StopsInTurn (from + length (rows ++ came.page)) n why more) (sym left) h) in
+          let whole = had.stops_on (call ∷ more) why (inr (came.page, refl, any came.page (StopsInTurn ((from + length rows) + length came.page) ((count - length rows) - length came.page) why more) ((more ≡ []) × (why ≡ trouble.Fail kind.Memory)) nonempty below)) in
+          subst (λ (cs : List Call). StopsInTurn from count why cs) (sym (append_assoc had.made (call ∷ []) more)) whole;
       few = let is = came.is in let few = came.few in let before = had.few in omega (arith, long, is, few, before);
       noted = came.noted ∙ ap (with_call call) had.noted ∙ noted_more had.made call calls;
-      counted = came.counted ∙ ap (gave_rows (length came.page)) had.counted ∙ sym (given_more had.made call counts);
+      counted = came.counted ∙ ap (gave_rows (length came.page)) had.counted ∙ sym (given_then had.made (call ∷ []) counts);
       quiet = quiet_then counts counts_now counts_next had.quiet (quiet_rows counts_now counts_next (length came.page) came.counted);
       told = page_told from rows came.page list had.told came.told;
     }
@@ -197,7 +291,7 @@ end_given from count list counts counts_now counts_next calls calls_now calls_ne
       in_turn = subst (λ (xs : List Row). InTurn from count (had.made ++ call ∷ []) xs) (append-nil rows)
           (had.goes_on (call ∷ []) [] ([], [], ap (λ (p : List Row). Call.Page (from + length rows) (count - length rows) (Ok p)) empty, refl, (refl, refl)));
       noted = came.noted ∙ ap (with_call call) had.noted ∙ noted_more had.made call calls;
-      counted = came.counted ∙ ap (gave_rows (length came.page)) had.counted ∙ sym (given_more had.made call counts);
+      counted = came.counted ∙ ap (gave_rows (length came.page)) had.counted ∙ sym (given_then had.made (call ∷ []) counts);
       told = by list had.told came.told;
     }
   where

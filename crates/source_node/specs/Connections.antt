@@ -12,9 +12,12 @@ use Rattle.wire.specs.declared.fault.WireFault.TheVariants.{BadMessage, TooLong}
 use Rattle.wire.specs.declared.request.Head.{Head}
 use Rattle.wire.specs.declared.writing.Kind.TheVariants.{Text, Json}
 use Rattle.source_api.specs.declared.counts.Counts.{Counts}
+use Rattle.source_api.specs.declared.source.Trouble.{Trouble}
+use Rattle.source_api.specs.declared.source.FailKind.TheVariants as kind
+use Rattle.source_api.specs.declared.source.Trouble.TheVariants.{Fail}
 use Rattle.source_node.specs.Refusals.{status_of, body_of}
 use Rattle.source_node.specs.Asking.{routed, asked_of, HasCount}
-use Rattle.source_node.specs.Serving.{Seen, Answers, IsQuiet, text_of}
+use Rattle.source_node.specs.Serving.{Seen, Answers, Fails, IsQuiet, text_of}
 use Rattle.source_node.specs.declared.asked.Asked.{Asked}
 use Rattle.source_node.specs.declared.answer.Answer.{Answer}
 use Rattle.source_node.specs.declared.node.ConnEnd.{ConnEnd}
@@ -45,11 +48,22 @@ pub record IsAnswered (version : Option ℕ) (asked : Asked) (before now : Seen)
 abbrev pub IsTroubled : Counts → Counts → Type 0
 IsTroubled before now = Rose before.faults now.faults ⊎ (Rose before.garbles now.garbles ⊎ Rose before.moves now.moves)
 
--- what is asked is answered, or a count of the source rose, or no memory was left
+-- a source gave no answer to what is asked, for another reason than memory, and a count of it rose
+pub record IsFailed (asked : Asked) (before now : Seen) : Type 0 where
+  pub why : Trouble
+  pub fails : Fails asked before now why
+  pub troubled : IsTroubled before.counts now.counts
+
+-- no memory was left while the answer was made: the source was asked for nothing else, and it counted no trouble
+pub record IsStarved (asked : Asked) (before now : Seen) : Type 0 where
+  pub asks : Fails asked before now (Fail kind.Memory) ⊎ ((answer : Answer) × Answers asked before now answer)
+  pub quiet : IsQuiet before.counts now.counts
+
+-- what is asked is answered, or the source gave no answer, or no memory was left
 abbrev pub Serving : Option ℕ → Asked → Seen → Seen → Result (List ℕ) Refusal → Type 0
 Serving version asked before now (Ok body) = IsAnswered version asked before now body
-Serving version asked before now (Err SourceFailed) = IsTroubled before.counts now.counts
-Serving version asked before now (Err NoMemory) = IsQuiet before.counts now.counts
+Serving version asked before now (Err SourceFailed) = IsFailed asked before now
+Serving version asked before now (Err NoMemory) = IsStarved asked before now
 Serving version asked before now (Err _) = ⊥
 
 -- a head is served as it asks; the source isn't asked where the head is refused
@@ -57,9 +71,14 @@ abbrev pub ServesAsked : Option ℕ → Result Asked Refusal → Seen → Seen �
 ServesAsked version (Ok asked) before now answer = HasCount asked × Serving version asked before now answer
 ServesAsked version (Err why) before now answer = (answer ≡ Err why) × (now ≡ before)
 
+-- no memory was left while what is asked was read, or while it was answered
+abbrev pub StarvesAt : Result Asked Refusal → Seen → Seen → Type 0
+StarvesAt (Ok asked) before now = (now ≡ before) ⊎ (HasCount asked × IsStarved asked before now)
+StarvesAt (Err why) before now = now ≡ before
+
 -- how a request with this method and this target is served; want of memory is free where it is on a route
 abbrev pub Serves : List ℕ → Option ℕ → List ℕ → List ℕ → Seen → Seen → Result (List ℕ) Refusal → Type 0
-Serves name version method target before now (Err NoMemory) = IsOk (routed name method target) × IsQuiet before.counts now.counts
+Serves name version method target before now (Err NoMemory) = IsOk (routed name method target) × StarvesAt (asked_of name method target) before now
 Serves name version method target before now answer = ServesAsked version (asked_of name method target) before now answer
 
 -- how what was heard is served: a head, or bytes that are none or pass a limit

@@ -7,7 +7,7 @@ use Rattle.source_api.specs.declared.source.Trouble.{Trouble}
 use Rattle.source_api.specs.declared.source.FailKind.TheVariants as kind
 use Rattle.source_api.specs.declared.source.Trouble.TheVariants as trouble
 use Rattle.source_api.specs.Calls.{Call, with_call}
-use Rattle.source_api.specs.Counting.{TroubleHasCause, gave_rows, gave_grade}
+use Rattle.source_api.specs.Counting.{TroubleHasCause, CountsAlone, gave_rows, gave_grade}
 use Rattle.source_api.specs.Told.{IsPage, IsGrade}
 use Rattle.source_node.specs.declared.asked.Asked.{Asked}
 use Rattle.source_node.specs.declared.asked.Asked.TheVariants as asked
@@ -87,15 +87,35 @@ pub record IsQuiet (before now : Counts) : Type 0 where
   pub garbles : now.garbles ≡ before.garbles
   pub moves : now.moves ≡ before.moves
 
--- a source gave no answer: the count of the trouble rose, and want of memory counts none
-pub record Fails (before now : Counts) (why : Trouble) : Type 0 where
-  pub cause : TroubleHasCause before now why
-  pub quiet : why ≡ trouble.Fail kind.Memory → IsQuiet before now
+-- the calls for pages one behind another, where no answer came for this reason: the last call gave none, or memory was refused behind it. Each
+-- is asked for all rows that are missing, and none is asked behind an empty page
+abbrev pub StopsInTurn : ℕ → ℕ → Trouble → List Call → Type 0
+StopsInTurn from count why [] = why ≡ trouble.Fail kind.Memory
+StopsInTurn from count why (call ∷ calls) =
+    ((call ≡ Call.Page from count (Err why)) × (calls ≡ []))
+    ⊎ ((page : List Row) × (call ≡ Call.Page from count (Ok page))
+    × IfAny page (StopsInTurn (from + length page) (count - length page) why calls) ((calls ≡ []) × (why ≡ trouble.Fail kind.Memory)))
+
+-- the calls that are made of a source for what is asked, where no answer came for this reason
+abbrev pub IsStopped : Asked → Trouble → List Call → Type 0
+IsStopped asked.Size why calls = calls ≡ Call.Size (Err why) ∷ []
+IsStopped (asked.Page from count) why calls = StopsInTurn from count why calls
+IsStopped (asked.Grade object) why calls = calls ≡ Call.Grade object (Err why) ∷ []
+
+-- a source gave no answer to what was asked, and was asked for nothing else: of its counts that of the trouble alone changed behind what was
+-- answered, and want of memory counts none
+pub record Fails (asked : Asked) (before now : Seen) (why : Trouble) : Type 0 where
+  pub calls : List Call
+  pub stopped : IsStopped asked why calls
+  pub noted : now.calls ≡ with_calls calls before.calls
+  pub cause : TroubleHasCause before.counts now.counts why
+  pub alone : CountsAlone (given_by calls before.counts) now.counts why
+  pub at_hand : now.at_hand ≡ before.at_hand
 
 -- how a source was asked
 abbrev pub Asks : Asked → Seen → Seen → Result Answer Trouble → Type 0
 Asks asked before now (Ok answer) = Answers asked before now answer
-Asks asked before now (Err why) = Fails before.counts now.counts why
+Asks asked before now (Err why) = Fails asked before now why
 
 -- one page came, and its rows were added
 pub record GivesPage (from count : ℕ) (list : Option (List Row)) (counts counts_now : Counts) (calls calls_now : Option (List Call))
@@ -117,12 +137,22 @@ pub record GivesRows (from count : ℕ) (list : Option (List Row)) (counts count
   pub counted : counts_now ≡ given_by made counts
   pub told : IfSome list (λ all. length all ≤ 2 ^ 32 → rows ≡ take count (drop from all))
 
+-- pages in turn came, and then no answer for this reason
+pub record StopsRows (from count : ℕ) (counts counts_now : Counts) (calls calls_now : Option (List Call)) (why : Trouble) : Type 0 where
+  pub made : List Call
+  pub in_turn : StopsInTurn from count why made
+  pub noted : calls_now ≡ with_calls made calls
+  pub cause : TroubleHasCause counts counts_now why
+  pub alone : CountsAlone (given_by made counts) counts_now why
+
 -- some pages came, with their rows, and those that are to come follow them
 pub record GivesSome (from count : ℕ) (list : Option (List Row)) (counts counts_now : Counts) (calls calls_now : Option (List Call))
     (rows : List Row) : Type 0 where
   pub made : List Call
   pub goes_on : (more : List Call) (rest : List Row) → InTurn (from + length rows) (count - length rows) more rest
       → InTurn from count (made ++ more) (rows ++ rest)
+  pub stops_on : (more : List Call) (why : Trouble) → StopsInTurn (from + length rows) (count - length rows) why more
+      → StopsInTurn from count why (made ++ more)
   pub few : length rows ≤ count
   pub noted : calls_now ≡ with_calls made calls
   pub counted : counts_now ≡ given_by made counts

@@ -6,7 +6,7 @@ ghost use Rattle.source_api.specs.Calls.{Call, with_call};
 ghost use Rattle.source_api.specs.Counting.{NoneFell, gave_rows};
 ghost use Rattle.source_api.specs.Told.{IsPage};
 ghost use Rattle.source_node.specs.Asking.{HasCount};
-ghost use Rattle.source_node.specs.Serving.{seen, GivesPage, GivesRows, Asks, Fails, text_of};
+ghost use Rattle.source_node.specs.Serving.{seen, GivesPage, GivesRows, StopsRows, Asks, text_of};
 
 use super::Asked;
 use limits::Memory;
@@ -90,7 +90,7 @@ fn add_rows<S: Source>(
     ensures later { NoneFell (S.counts source.old) (S.counts source.new) }
     ensures rows { OnOk result (GivesRows from count (S.list source.old) (S.counts source.old) (S.counts source.new)
         (S.calls source.old) (S.calls source.new) rows.new.items) }
-    ensures fails { IfErr result (Fails (S.counts source.old) (S.counts source.new)) }
+    ensures stops { IfErr result (StopsRows from count (S.counts source.old) (S.counts source.new) (S.calls source.old) (S.calls source.new)) }
 {
     while rows.len() < count as usize {
         let came = rows.len() as u32;
@@ -124,7 +124,7 @@ fn add_page<S: Source>(
     ensures later { NoneFell (S.counts source.old) (S.counts source.new) }
     ensures page { IfOk result (λ len. GivesPage from count (S.list source.old) (S.counts source.old) (S.counts source.new)
         (S.calls source.old) (S.calls source.new) rows.old.items rows.new.items len) }
-    ensures fails { IfErr result (Fails (S.counts source.old) (S.counts source.new)) }
+    ensures stops { IfErr result (StopsRows from count (S.counts source.old) (S.counts source.new) (S.calls source.old) (S.calls source.new)) }
 {
     match source.page(alloc, from, count) {
         Ok(page) => match rows.extend_from_slice(&page) {

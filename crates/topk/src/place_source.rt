@@ -47,21 +47,21 @@ impl<D: Dial + Send + Drop> Source for PlaceSource<D> {
     fn size(&mut self, alloc: Global) -> Result<u64, Trouble> {
         match self {
             PlaceSource::File(source) => source.size(alloc),
-            PlaceSource::Http(source) => source.ask_size(alloc),
+            PlaceSource::Http(source) => source.size(alloc),
         }
     }
 
     fn page(&mut self, alloc: Global, from: u32, count: u32) -> Result<Vec<Row>, Trouble> {
         match self {
             PlaceSource::File(source) => source.page(alloc, from, count),
-            PlaceSource::Http(source) => source.ask_page(alloc, from, count),
+            PlaceSource::Http(source) => source.page(alloc, from, count),
         }
     }
 
     fn grade(&mut self, alloc: Global, object: u32) -> Result<Option<u32>, Trouble> {
         match self {
             PlaceSource::File(source) => source.grade(alloc, object),
-            PlaceSource::Http(source) => source.ask_grade(alloc, object),
+            PlaceSource::Http(source) => source.grade(alloc, object),
         }
     }
 

@@ -1,10 +1,11 @@
-use Rattle.std.proofs.Common.{sym, subst}
-use Rattle.source_api.specs.declared.counts.Counts.{Counts}
-use Rattle.source_node.specs.Serving.{IsQuiet}
-use Rattle.source_node.proofs.EndLaws.{quiet_given}
+use Rattle.std.proofs.Common.{ap, ◌∙◌}
+use Rattle.source_api.specs.declared.source.Trouble.TheVariants.{Fail}
+use Rattle.source_node.proofs.EndLaws.{starved_asking, starved_writing}
 use Rattle.source_node.proofs.node.serve_asked.Goals as goal
 
 pub returns-in-Err-text-clause-serves : goal.returns-in-Err-text-clause-serves
-returns-in-Err-text-clause-serves g c =
-    let a = c.in-Ok.ensures.asks in
-    subst (λ (n : Counts). IsQuiet (g.S.Source.counts c.args.source.now) n) (sym a.counted) (quiet_given a.calls (g.S.Source.counts c.args.source.now))
+returns-in-Err-text-clause-serves g c = starved_writing _ _ _ _ c.in-Ok.ensures.asks
+
+pub returns-in-Err-Fail-Memory-clause-serves : goal.returns-in-Err-Fail-Memory-clause-serves
+returns-in-Err-Fail-Memory-clause-serves g c =
+    starved_asking _ _ _ c.in-Err-Fail-Memory.field-0 c.in-Err-Fail-Memory.ensures.asks (c.in-Err-Fail-Memory.field-0-is ∙ ap Fail (rw c.in-Err-Fail-Memory.field-0-is at c.in-Err-Fail-Memory.field-0-0-is))

@@ -1,5 +1,5 @@
 use Rattle.http_source.proofs.CountedLaws.{counted_is, later_with, grade_cause, grade_alone, grade_gave, grade_gave_nothing, grade_quiet}
-use Rattle.http_source.proofs.http_source.HttpSource.ask_grade.Goals as goal
+use Rattle.http_source.proofs.http_source.HttpSourceSource.grade.Goals as goal
 
 pub returns-clause-answers : goal.returns-clause-answers
 returns-clause-answers g c =

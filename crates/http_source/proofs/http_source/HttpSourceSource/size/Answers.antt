@@ -1,5 +1,5 @@
 use Rattle.http_source.proofs.CountedLaws.{counted_is, later_with, size_cause, size_alone, size_gave, size_quiet}
-use Rattle.http_source.proofs.http_source.HttpSource.ask_size.Goals as goal
+use Rattle.http_source.proofs.http_source.HttpSourceSource.size.Goals as goal
 
 pub returns-clause-answers : goal.returns-clause-answers
 returns-clause-answers g c =

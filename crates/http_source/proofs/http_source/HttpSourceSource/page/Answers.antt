@@ -1,5 +1,5 @@
 use Rattle.http_source.proofs.CountedLaws.{counted_is, later_with, page_cause, page_alone, page_gave, page_gave_nothing, page_quiet}
-use Rattle.http_source.proofs.http_source.HttpSource.ask_page.Goals as goal
+use Rattle.http_source.proofs.http_source.HttpSourceSource.page.Goals as goal
 
 pub returns-clause-answers : goal.returns-clause-answers
 returns-clause-answers g c =
