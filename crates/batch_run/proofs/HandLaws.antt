@@ -27,7 +27,8 @@ use Rattle.batch_run.specs.Working.{IsAtWork, Worked, AllWorked}
 use Rattle.batch_run.specs.Slots.{state_of, HasFeeder, Fetches, AllFetch}
 use Rattle.fetcher.specs.Posting.{ArePosts, AreServed}
 use Rattle.batch_run.specs.Handing.{AllHands, AreSpared}
-use Rattle.batch_run.proofs.WorkLaws.{begun_idle, knows_same}
+use Rattle.query_run.proofs.KnowsLaws.{knows_same}
+use Rattle.batch_run.proofs.WorkLaws.{begun_idle}
 
 -- the workers before a place are short of memory, and else all stay
 pub record SparedTo (place : ℕ) (before now : List Worker) : Type 0 where

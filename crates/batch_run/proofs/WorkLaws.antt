@@ -23,50 +23,18 @@ use Rattle.query_run.specs.declared.ended.Refusal.TheVariants.{Core, Look}
 use Rattle.query_run.specs.declared.inquiry.Inquiry.{Inquiry}
 use Rattle.query_run.specs.Endings.{IsRight}
 use Rattle.query_run.specs.Inquiries.{source_of}
-use Rattle.query_run.specs.Advancing.{HasSourcesIn, IsSourceIn, KnowsMore, Advances}
+use Rattle.query_run.specs.Advancing.{KnowsMore, HasSourcesIn, IsSourceIn, KnowsAll, Advances}
 use Rattle.query_run.specs.Asking.{AsksGradeOf, Wanted}
 use Rattle.query_run.specs.Ran.{Ran, RanSome, shown_to}
-use Rattle.query_run.proofs.Stops.{knows_more}
+use Rattle.query_run.proofs.KnowsLaws.{knows_same, knows_on, knows_advanced}
 use Rattle.batch_run.specs.declared.work.Worker.{Worker}
 use Rattle.batch_run.specs.Shares.{share, share_from}
 use Rattle.batch_result.specs.Using.{is_fail, refuses_for, is_refused_for, IsWantedBy, IsNamedBy}
 use Rattle.batch_result.specs.Cut.{begun}
-use Rattle.batch_run.specs.Working.{KnowsAll, End, IsEndOf, StoodIf, DidOf, RanAll, RanOne, RanSo, HasBegun, HasWorked}
+use Rattle.batch_run.specs.Working.{End, IsEndOf, StoodIf, DidOf, RanAll, RanOne, RanSo, HasBegun, HasWorked}
 use Rattle.batch_run.proofs.ShareLaws.{share_push, share_here, share_else}
 use Rattle.batch_run.proofs.Zips.{zip_push, zip_map}
 use Rattle.batch_result.proofs.Places.{stands_at}
-
--- a pass knows at least as much, step by step
-pub knows_on : (a b c : List Hold) → KnowsAll a b → KnowsAll b c → KnowsAll a c
-knows_on a b c one other = record {
-  size = other.size ∙ one.size;
-  each = λ source. knows_more (hold_at a source) (hold_at b source) (hold_at c source) (one.each source) (other.each source);
-}
-
-pub knows_advanced : (sources : List ℕ) (before after : List Hold) → Advances sources before after → KnowsAll before after
-knows_advanced sources before after h = record { size = h.size; each = h.knows }
-
-pub knows_same : (holds : List Hold) → KnowsAll holds holds
-knows_same holds = record {
-  size = refl;
-  each = λ source.
-      let p = (hold_at holds source).pass.1 in
-      record {
-        follows = record {
-          seen = record { rest = []; goes_on = sym (nothing_more p.seen) };
-          met = record { rest = []; goes_on = sym (nothing_more p.met) };
-          tally = record { failed = omega arith; garbled = omega arith; memory = omega arith };
-        };
-        name = refl;
-        parts = refl;
-        writer = refl;
-        within = λ h. h;
-      };
-}
-  where
-    nothing_more : {A : Type 0} (xs : List A) → xs ++ [] ≡ xs
-    nothing_more [] = refl
-    nothing_more (x ∷ xs) = ap (λ ys. x ∷ ys) (nothing_more xs)
 
 -- the sources of a query are still there
 pub sources_stay : (before after : List Hold) (ready : Ready) → KnowsAll before after → HasSourcesIn before ready → HasSourcesIn after ready

@@ -17,7 +17,7 @@ use Rattle.query_run.specs.Kept.{IsServed}
 use Rattle.query_run.specs.Made.{IsOf}
 use Rattle.query_run.specs.Endings.{EndsAs, IsRight}
 use Rattle.query_run.specs.Seen.{states_seen}
-use Rattle.query_run.specs.Advancing.{WaitsForNothing, HasSourcesIn, KnowsMore}
+use Rattle.query_run.specs.Advancing.{WaitsForNothing, HasSourcesIn, KnowsAll}
 use Rattle.query_run.specs.Failing.{LookRefused}
 use Rattle.query_run.specs.Ran.{Ran, RanSome}
 use Rattle.batch_run.specs.declared.work.Worker.{Worker}
@@ -25,11 +25,6 @@ use Rattle.batch_run.specs.Shares.{share}
 use Rattle.batch_result.specs.Using.{is_refused_for, IsWantedBy, IsNamedBy}
 use Rattle.batch_result.specs.Batches.{IsSpared}
 use Rattle.batch_result.specs.Cut.{begun}
-
--- a pass later on: of each source it knows at least as much
-pub record KnowsAll (before after : List Hold) : Type 0 where
-  pub size : length after ≡ length before
-  pub each : (source : ℕ) → KnowsMore (hold_at before source) (hold_at after source)
 
 -- a query as it stood at its end, and its ending
 abbrev pub End : Type 0

@@ -4,7 +4,7 @@ use Rattle.std.proofs.lemmas.Option.{slice_get-get_or}
 use Rattle.std.proofs.lemmas.List.{length-drop, reverse-append, reverse-reverse, take_all, take_more}
 use Rattle.cert_text.specs.declared.refusal.Refusal.{Refusal}
 use Rattle.query_text.specs.declared.query.Query.{Query}
-use Rattle.query_core.specs.declared.ready.Ready.{Ready as ReadyQuery}
+use Rattle.query_admission.specs.Ready.{Ready as ReadyQuery}
 use Rattle.query_admission.specs.View.{View}
 use Rattle.query_admission.specs.Causes.{admission_causes, line_over}
 use Rattle.query_admission.specs.Admission.{Admits, IsReadAs, RefusesLine, IsAdmitted}

@@ -1,6 +1,6 @@
 -- What query lines come to before they run, in their order.
 use Rattle.std.specs.Prelude.{◌≡◌, ◌+◌, ℕ, List, [], ◌∷◌}
-use Rattle.query_core.specs.declared.ready.Ready.{Ready as ReadyQuery}
+use Rattle.query_admission.specs.Ready.{Ready as ReadyQuery}
 use Rattle.query_admission.specs.View.{View}
 use Rattle.query_admission.specs.Causes.{admission_causes, line_over}
 use Rattle.query_admission.specs.Admission.{RefusesLine, IsAdmitted}

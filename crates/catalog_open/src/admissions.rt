@@ -11,8 +11,7 @@ use super::Memory;
 use super::catalogued::Catalogued;
 use super::reading::let_lines_go;
 use cert_text::Refusal;
-use query_admission::{Admitted, ReadLine, admit_read};
-use query_core::Ready;
+use query_admission::{Admitted, ReadLine, Ready, admit_read};
 use query_text::Query;
 use std::alloc::Global;
 

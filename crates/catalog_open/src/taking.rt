@@ -2,9 +2,9 @@
 
 ghost use Rattle.std.specs.Prelude.{◌≡◌, ◌<◌, true, Some, [], ℕ, List, OnErr, OnOk, IfOk, length, take};
 ghost use Rattle.source_api.specs.Places.{CountsTakes, SameAtEach, SameElsewhere};
-ghost use Rattle.catalog_open.specs.Entries.{entry_at, is_marked};
+ghost use Rattle.catalog_open.specs.Entries.{entry_at};
 ghost use Rattle.catalog_open.specs.Openings.{AsksEachAtMostOnce, AsksEachOnce};
-ghost use Rattle.catalog_open.specs.Takings.{AreAsked, AreKnown, AreTaken, IsAsked, IsTaken, KnowsHeld, TakesNext, marked_before};
+ghost use Rattle.catalog_open.specs.Takings.{AreAsked, AreKnown, AreTaken, IsAsked, IsTaken, KnowsHeld, TakesNext};
 
 use super::Memory;
 use super::entries::place_of_entry;

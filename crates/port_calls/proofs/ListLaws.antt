@@ -17,8 +17,8 @@ use Rattle.catalog_open.specs.Openings.{AreOpened, AsksEachAtMostOnce, AsksEachO
 use Rattle.catalog_open.proofs.Once.{few_back}
 use Rattle.catalog_run.proofs.Whole.{back_keeps, opened_for, run_moves}
 use Rattle.query_server.specs.Entries.{AreEntriesOf, IsSized}
-use Rattle.query_server.specs.declared.opened.OpenedEntry.{OpenedEntry}
-use Rattle.query_server.specs.declared.opened.OpenedEntry.TheVariants.{Opened, TooLarge}
+use Rattle.query_server.specs.OpenedEntry.{OpenedEntry}
+use Rattle.query_server.specs.OpenedEntry.TheVariants.{Opened, TooLarge}
 use Rattle.query_server.specs.Homes.{AreHomes, home_at, home_of}
 use Rattle.query_server.specs.declared.server.Served.{Served}
 use Rattle.query_server.specs.declared.server.Served.TheVariants.{Ended, PortFault as AtFault, Memory as NoMemory}

@@ -5,8 +5,8 @@ use Rattle.catalog_text.specs.Catalog.{Listed as Entry}
 use Rattle.catalog_open.specs.declared.opened.Opening.{Opening}
 use Rattle.catalog_open.specs.declared.opened.Opening.TheVariants.{Closed, Open}
 use Rattle.catalog_open.specs.Openings.{Counted, Used, Moves, Sources, AreOpened, KeepsOthers, AsksEachAtMostOnce, AsksEachOnce}
-use Rattle.query_server.specs.declared.opened.OpenedEntry.{OpenedEntry}
-use Rattle.query_server.specs.declared.opened.OpenedEntry.TheVariants.{Opened, NotOpened, TooLarge}
+use Rattle.query_server.specs.OpenedEntry.{OpenedEntry}
+use Rattle.query_server.specs.OpenedEntry.TheVariants.{Opened, NotOpened, TooLarge}
 use Rattle.call_ends.specs.Shelves.{Shelf, TellsTheSame}
 
 -- what becomes of a list by what became of its source: one that states more objects than a list may have is too large

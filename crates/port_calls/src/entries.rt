@@ -1,6 +1,6 @@
 //! What becomes of the lists of a catalog whose sources were opened.
 
-ghost use Rattle.std.specs.Prelude.{◌≡◌, map, length, true, IfOk};
+ghost use Rattle.std.specs.Prelude.{◌≡◌, map, true, IfOk};
 ghost use Rattle.port_calls.specs.Opening.{entry_of, every};
 
 use catalog_open::Opening;

@@ -1,6 +1,6 @@
 //! What a node writes, and how many links it says were served.
 
-ghost use Rattle.std.specs.Prelude.{◌≡◌, ◌≤◌};
+ghost use Rattle.std.specs.Prelude.{◌≤◌};
 ghost use Rattle.call_ends.specs.Calls.{output_as};
 ghost use Rattle.call_ends.specs.Ends.{Says};
 ghost use Rattle.port_calls.specs.NodeTexts.{SaysServed, served_text, unlisted_text};

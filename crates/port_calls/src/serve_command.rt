@@ -1,12 +1,8 @@
 //! The command `serve`.
 
-ghost use Rattle.std.specs.Prelude.{◌≡◌, ◌≤◌, ℕ, List};
-ghost use Rattle.csv_records.specs.Records.{records_of};
-ghost use Rattle.catalog_text.specs.Catalog.{IsCatalog};
+ghost use Rattle.std.specs.Prelude.{◌≤◌, ℕ, List};
 ghost use Rattle.limits.specs.Ranges.{AreSettings};
 ghost use Rattle.call_ends.specs.Calls.{Input, output_as, shelf_as, outside_of, call_at};
-ghost use Rattle.call_ends.specs.Ends.{Says};
-ghost use Rattle.port_calls.specs.NodeTexts.{served_text};
 ghost use Rattle.port_calls.specs.Ports.{ports_of};
 ghost use Rattle.port_calls.specs.ServeEnds.{EndsServe, SaysServeEnded};
 

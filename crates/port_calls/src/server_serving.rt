@@ -1,6 +1,6 @@
 //! The lists of a catalog, served at a port.
 
-ghost use Rattle.std.specs.Prelude.{◌≡◌, ◌≤◌, ◌<◌, ◌^◌, ◌++◌, [], ℕ, List, All, IfOk, OnOk, Contains, length, map, reverse};
+ghost use Rattle.std.specs.Prelude.{◌≡◌, ◌≤◌, ◌<◌, ◌^◌, [], All, IfOk, OnOk, length, map};
 ghost use Rattle.limits.specs.Ranges.{AreSettings};
 ghost use Rattle.source_api.specs.Places.{SameAtEach};
 ghost use Rattle.catalog_open.specs.Slots.{IsIdle, sources_in};

@@ -14,4 +14,5 @@ pub use admitted::Admitted;
 pub use limits::Memory;
 pub use line_outcome::LineOutcome;
 pub use lists::{Listed, Lists};
+pub use query_core::Ready;
 pub use reading::{ReadLine, read_line};

@@ -6,9 +6,9 @@ use Rattle.source_pool.specs.Passes.{hold_at}
 use Rattle.batch_run.specs.declared.work.Worker.{Worker}
 use Rattle.batch_run.specs.Crews.{IsHired, IsHiring}
 use Rattle.batch_run.proofs.CrewLaws.{hired_at_work}
-use Rattle.query_server.specs.Entries.{Openings, IsThere, MayAnswer}
-use Rattle.query_server.specs.declared.opened.OpenedEntry.{OpenedEntry}
-use Rattle.query_server.specs.declared.opened.OpenedEntry.TheVariants.{Opened, NotOpened, TooLarge}
+use Rattle.server_conn.specs.Entries.{Openings, IsThere, MayAnswer}
+use Rattle.server_conn.specs.declared.opened.OpenedEntry.{OpenedEntry}
+use Rattle.server_conn.specs.declared.opened.OpenedEntry.TheVariants.{Opened, NotOpened, TooLarge}
 use Rattle.query_server.specs.Homes.{IsCounted}
 
 -- a list that is open is there in a pool of these counts

@@ -4,9 +4,9 @@ use Rattle.std.proofs.lemmas.Bool.{cases_lt}
 use Rattle.std.proofs.lemmas.Bool.Decides.{eqb_tells}
 use Rattle.std.proofs.lemmas.List.{length-set, get_or-set_same, get_or-set_other, get_or_default, get_or_past, get_or_append_left, get_or_push, length_push, take_all}
 use Rattle.limits.specs.declared.TheConstants.{MAX_OBJECTS}
-use Rattle.query_server.specs.Entries.{IsSized}
-use Rattle.query_server.specs.declared.opened.OpenedEntry.{OpenedEntry}
-use Rattle.query_server.specs.declared.opened.OpenedEntry.TheVariants.{Opened, NotOpened, TooLarge}
+use Rattle.server_conn.specs.Entries.{IsSized}
+use Rattle.server_conn.specs.declared.opened.OpenedEntry.{OpenedEntry}
+use Rattle.server_conn.specs.declared.opened.OpenedEntry.TheVariants.{Opened, NotOpened, TooLarge}
 use Rattle.query_server.specs.Homes.{home_of, home_at, entry_at, AreHomes, IsAtHome, AreAtHome, HaveHomes, IsWithin, IsCounted, counted_by}
 
 home_map : (entries : List OpenedEntry) (place : ℕ) → home_at (map home_of entries) place ≡ home_of (entry_at entries place)

@@ -1,10 +1,5 @@
--- Lemmas on one connection of a query server.
-mod ListLaws
-mod PassLaws
-mod LineLaws
-mod EndLaws
-mod AnswerLaws
-mod FailLaws
+-- Lemmas on links that are taken one after another.
+pub mod TakingLaws
 -- Lemmas on the sources of lists, on counts, and on what a generation leaves of the sources.
 pub mod HomeLaws
 pub mod SourceLaws

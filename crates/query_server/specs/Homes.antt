@@ -1,7 +1,7 @@
 -- The sources of the lists of a catalog, by the lists' places.
 use Rattle.std.specs.Prelude.{◌≡◌, ◌<◌, ℕ, ⊤, List, Option, Some, None, length, slice_index_or, slice_set}
-use Rattle.query_server.specs.declared.opened.OpenedEntry.{OpenedEntry}
-use Rattle.query_server.specs.declared.opened.OpenedEntry.TheVariants.{Opened, NotOpened, TooLarge}
+use Rattle.server_conn.specs.declared.opened.OpenedEntry.{OpenedEntry}
+use Rattle.server_conn.specs.declared.opened.OpenedEntry.TheVariants.{Opened, NotOpened, TooLarge}
 
 -- the source of a list that is open
 abbrev pub home_of : OpenedEntry → Option ℕ

@@ -4,7 +4,7 @@ use Rattle.ranked_list.specs.declared.row.Row.{Row}
 use Rattle.source_api.specs.declared.counts.Counts.{Counts}
 use Rattle.source_api.specs.Counting.{NoneFell}
 use Rattle.fetcher.specs.declared.slot.Slot.{Slot}
-use Rattle.link_queue.specs.Accepting.{TookAll, TookSome}
+use Rattle.query_server.specs.Accepting.{TookAll, TookSome}
 use Rattle.query_server.specs.declared.server.Served.{Served}
 use Rattle.query_server.specs.declared.server.Served.TheVariants as served
 

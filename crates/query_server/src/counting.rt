@@ -1,11 +1,11 @@
 //! How many objects a pool is to have of each source.
 
 ghost use Rattle.std.specs.Prelude.{◌≡◌, ◌≤◌, length, All, IfOk};
-ghost use Rattle.query_server.specs.Entries.{IsSized};
+ghost use Rattle.server_conn.specs.Entries.{IsSized};
 ghost use Rattle.query_server.specs.Homes.{HaveHomes, IsWithin, IsCounted, counted_by};
 
-use super::opened::OpenedEntry;
 use limits::{MAX_OBJECTS, Memory};
+use server_conn::OpenedEntry;
 use std::alloc::Global;
 
 /// Puts the count of an open list at the place of its source.

@@ -8,13 +8,13 @@ ghost use Rattle.query_server.specs.Serving.{KeepsSources};
 
 use super::counting::counts_of;
 use super::homes::homes_of;
-use super::opened::Opened;
+use super::queue::LinkQueue;
 use super::reopening::entries_again;
 use super::sides::serve_sides;
 use batch_run::{Crew, lend, take_back};
 use fetcher::Slot;
 use limits::{Memory, Settings};
-use link_queue::LinkQueue;
+use server_conn::Opened;
 use source_api::Source;
 use std::alloc::Global;
 use std::sync::Wait;

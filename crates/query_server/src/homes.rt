@@ -3,8 +3,8 @@
 ghost use Rattle.std.specs.Prelude.{◌≡◌, map, IfOk};
 ghost use Rattle.query_server.specs.Homes.{home_of};
 
-use super::opened::OpenedEntry;
 use limits::Memory;
+use server_conn::OpenedEntry;
 use std::alloc::Global;
 
 /// The source of a list that is open.

@@ -2,13 +2,13 @@
 
 ghost use Rattle.std.specs.Prelude.{◌≡◌, ◌<◌, ℕ, length, Some, None, All, IfOk};
 ghost use Rattle.source_api.specs.Counting.{NoneFell};
-ghost use Rattle.query_server.specs.Entries.{IsSized};
+ghost use Rattle.server_conn.specs.Entries.{IsSized};
 ghost use Rattle.query_server.specs.Homes.{AreHomes, AreAtHome, IsAtHome};
 ghost use Rattle.query_server.specs.Serving.{KeepsSources};
 
-use super::opened::OpenedEntry;
 use fetcher::Slot;
 use limits::{MAX_OBJECTS, Memory};
+use server_conn::OpenedEntry;
 use source_api::{FailKind, Source, Trouble};
 use std::alloc::Global;
 

@@ -5,11 +5,12 @@ ghost use Rattle.limits.specs.Ranges.{AreSettings};
 ghost use Rattle.query_server.specs.Homes.{AreHomes, AreAtHome, home_of};
 ghost use Rattle.query_server.specs.Serving.{KeepsSources, ServesLinks};
 
+use super::accepting::{Accepted, accept_all};
 use super::generation::serve_side;
-use super::opened::Opened;
+use super::queue::LinkQueue;
 use fetcher::Slot;
 use limits::Settings;
-use link_queue::{Accepted, LinkQueue, accept_all};
+use server_conn::Opened;
 use source_api::Source;
 use std::alloc::Global;
 use std::sync::Wait;
@@ -41,7 +42,7 @@ fn accept_side<P: Port>(rt: &impl Wait, port: &mut P, queue: &LinkQueue<P::L>, c
 }
 
 /// Serves at most so many links of a port, which has to listen already: each gets the reply to its one request, as
-/// `query_server::serve_conn` gives it over the catalog. As many workers as the settings say serve links at the same time, and beside them
+/// `server_conn::serve_conn` gives it over the catalog. As many workers as the settings say serve links at the same time, and beside them
 /// one fetcher a source brings what their queries need. This thread accepts the links; at most as many as there are workers wait. A worker
 /// drops a link when its connection has ended; one that fails ends its own connection alone. Every connection has ended when the call
 /// returns, unless memory was wanted. The call may wait for ever.

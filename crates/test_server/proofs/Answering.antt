@@ -7,8 +7,8 @@ use Rattle.source_pool.specs.Passes.{Feed, lock_at, feed_at, IsIdleOf, AreFeeder
 use Rattle.query_run.specs.Advancing.{IsSourceIn}
 use Rattle.query_run.proofs.Opening.{opened_rests}
 use Rattle.catalog_text.specs.Catalog.{Listed as Entry}
-use Rattle.query_server.specs.declared.opened.OpenedEntry.{OpenedEntry}
-use Rattle.query_server.specs.Entries.{Openings, IsSized, AreEntriesOf, IsThere, MayAnswer}
+use Rattle.server_conn.specs.declared.opened.OpenedEntry.{OpenedEntry}
+use Rattle.server_conn.specs.Entries.{Openings, IsSized, AreEntriesOf, IsThere, MayAnswer}
 use Rattle.test_query_support.specs.declared.pair.Pair.{Pair}
 use Rattle.test_query_support.specs.Pairs.{IsPair}
 use Rattle.test_server.specs.Four.{four_entries}

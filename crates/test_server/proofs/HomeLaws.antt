@@ -1,5 +1,5 @@
 -- The sources of the lists that are open.
-use Rattle.std.proofs.Common.{◌≡◌, ◌<◌, ℕ, zero, suc, Option, Some, None, refl, sym, ◌∙◌, subst, arith, map}
+use Rattle.std.proofs.Common.{◌≡◌, ◌<◌, ℕ, zero, suc, Some, sym, ◌∙◌, arith, map}
 use Rattle.std.proofs.lemmas.Option.{same_Some}
 use Rattle.query_server.specs.Homes.{AreHomes, home_at, home_of}
 use Rattle.test_server.specs.Four.{four_entries}

@@ -1,7 +1,7 @@
 -- What became of the sources of four lists.
 use Rattle.std.specs.Prelude.{List, [], ◌∷◌}
-use Rattle.query_server.specs.declared.opened.OpenedEntry.{OpenedEntry}
-use Rattle.query_server.specs.declared.opened.OpenedEntry.TheVariants.{Opened, NotOpened, TooLarge}
+use Rattle.server_conn.specs.declared.opened.OpenedEntry.{OpenedEntry}
+use Rattle.server_conn.specs.declared.opened.OpenedEntry.TheVariants.{Opened, NotOpened, TooLarge}
 
 -- two are open, with three objects, one isn't, and one is too large
 abbrev pub four_entries : List OpenedEntry

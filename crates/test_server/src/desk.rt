@@ -2,12 +2,12 @@
 
 ghost use Rattle.std.specs.Prelude.{◌≡◌, IfSome};
 ghost use Rattle.test_query_support.specs.Pairs.{IsPair};
-ghost use Rattle.query_server.specs.Entries.{MayAnswer};
+ghost use Rattle.server_conn.specs.Entries.{MayAnswer};
 ghost use Rattle.source_pool.specs.Passes.{IsIdleOf};
 ghost use Rattle.test_server.specs.Four.{four_entries};
 
 use catalog_text::read_catalog;
-use query_server::{Opened, OpenedEntry};
+use server_conn::{Opened, OpenedEntry};
 use std::alloc::Global;
 use test_query_support::Pair;
 

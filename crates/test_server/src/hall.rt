@@ -1,6 +1,6 @@
 //! A server over the lists A and B in memory, and links whose replies are kept.
 
-ghost use Rattle.std.specs.Prelude.{◌≡◌, ◌≤◌, ◌<◌, ℕ, None, All, length, map, IfSome};
+ghost use Rattle.std.specs.Prelude.{◌≡◌, ◌≤◌, ◌<◌, None, All, length, map, IfSome};
 ghost use Rattle.tk_io.specs.LinksInMemory.{IsUnused};
 ghost use Rattle.query_server.specs.Homes.{AreHomes, home_of};
 ghost use Rattle.test_server.specs.Four.{four_entries};

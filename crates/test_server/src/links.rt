@@ -2,7 +2,7 @@
 
 use super::holds;
 use super::server_visits::serve_link;
-use query_server::ConnEnd;
+use server_conn::ConnEnd;
 use std::alloc::Global;
 use std::sync::Wait;
 use std::thread::Threads;

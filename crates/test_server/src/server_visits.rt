@@ -1,12 +1,11 @@
 //! Requests to the server over a link in memory, beside fetchers of its two sources, and their replies.
 
-ghost use Rattle.std.specs.Prelude.{◌≡◌};
 ghost use Rattle.source_pool.specs.Passes.{IsIdleOf};
-ghost use Rattle.query_server.specs.Entries.{MayAnswer};
+ghost use Rattle.server_conn.specs.Entries.{MayAnswer};
 
 use super::desk::{open_lists, opened_may_answer};
 use fetcher::Stop;
-use query_server::{Answers, ConnEnd, Opened, Turn, serve_conn};
+use server_conn::{Answers, ConnEnd, Opened, Turn, serve_conn};
 use source_pool::{Feeder, Pool, PoolPass};
 use std::alloc::Global;
 use std::sync::Wait;

@@ -1,6 +1,7 @@
 use Rattle.std.proofs.Common.{◌∙◌, refl, sym, subst, arith}
 use Rattle.query_run.specs.Advancing.{HasSourcesIn}
-use Rattle.batch_run.proofs.WorkLaws.{all_sources_stay, begun_next, begun_none, begun_skip, begun_worked, has_worked, knows_on, knows_same, passed_by, ran_next, ran_none, short_not}
+use Rattle.query_run.proofs.KnowsLaws.{knows_same, knows_on}
+use Rattle.batch_run.proofs.WorkLaws.{all_sources_stay, begun_next, begun_none, begun_skip, begun_worked, has_worked, passed_by, ran_next, ran_none, short_not}
 use Rattle.batch_run.proofs.work.work.Goals.{then-worker-via-then-worker, then-worker-via-else-worker+then-place-workers}
 use Rattle.batch_run.proofs.work.work.Goals as goal
 

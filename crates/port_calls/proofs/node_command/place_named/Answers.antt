@@ -1,7 +1,5 @@
-use Rattle.std.proofs.Common.{◌≡◌, ◌∙◌, List, ℕ, Some, None, option_map, sym, ap}
-use Rattle.catalog_text.specs.Catalog.{Listed as Entry}
+use Rattle.std.proofs.Common.{◌∙◌, Some, None, option_map, sym, ap}
 use Rattle.catalog_text.specs.Listed.{listed}
-use Rattle.port_calls.specs.Named.{place_named}
 use Rattle.port_calls.proofs.NodeEnding.{named_none, named_at}
 use Rattle.port_calls.proofs.node_command.place_named.Goals as goal
 

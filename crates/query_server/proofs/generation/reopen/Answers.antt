@@ -1,5 +1,5 @@
 use Rattle.std.proofs.Common.{All, length, ap, sym, subst, ◌∙◌}
-use Rattle.query_server.specs.Entries.{IsSized}
+use Rattle.server_conn.specs.Entries.{IsSized}
 use Rattle.query_server.proofs.generation.reopen.Goals as goal
 
 pub entries_again-requires-clause-sized : goal.entries_again-requires-clause-sized

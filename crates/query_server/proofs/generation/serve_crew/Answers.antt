@@ -1,6 +1,6 @@
 use Rattle.std.proofs.Common.{All, sym, subst}
 use Rattle.batch_run.specs.declared.work.Worker.{Worker}
-use Rattle.query_server.specs.Entries.{MayAnswer}
+use Rattle.server_conn.specs.Entries.{MayAnswer}
 use Rattle.query_server.proofs.CrewLaws.{all_may_answer}
 use Rattle.query_server.proofs.SourceLaws.{keeps_fetched}
 use Rattle.query_server.proofs.generation.serve_crew.Goals as goal

@@ -1,5 +1,5 @@
 use Rattle.std.proofs.Common.{All, sym, subst}
-use Rattle.query_server.specs.Entries.{IsSized}
+use Rattle.server_conn.specs.Entries.{IsSized}
 use Rattle.query_server.proofs.generation.serve_generation.Goals as goal
 
 pub counts_of-requires-clause-sized : goal.counts_of-requires-clause-sized

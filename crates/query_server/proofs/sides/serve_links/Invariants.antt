@@ -1,5 +1,5 @@
-use Rattle.query_server.specs.Entries.{view_in, MayAnswer}
-use Rattle.query_server.specs.Answers.{Remembers}
+use Rattle.server_conn.specs.Entries.{view_in, MayAnswer}
+use Rattle.server_conn.specs.Answers.{Remembers}
 use Rattle.query_server.proofs.sides.serve_links.Given as goal
 
 abbrev pub invariant-loop : goal.invariant-loop

@@ -1,2 +1,0 @@
--- Lemmas on links that are taken one after another.
-pub mod TakingLaws

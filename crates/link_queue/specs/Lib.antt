@@ -1,2 +1,0 @@
--- What is taken of a port whose links are put into a queue.
-pub mod Accepting

@@ -1,4 +1,0 @@
-use Rattle.query_server.proofs.answers.Answers.keep.Goals as goal
-
-pub returns : goal.returns
-returns c = rw (← c.self.view_is) c.keep_in.ensures.keeps

@@ -1,6 +1,0 @@
-use Rattle.std.proofs.Common.{◌≡◌, drop}
-use Rattle.query_server.specs.Answers.{text_of}
-use Rattle.query_server.proofs.answers.text_in.Given as goal
-
-abbrev pub invariant-loop-place : goal.invariant-loop-place
-invariant-loop-place l = text_of l.line (drop l.place l.answers) ≡ text_of l.line l.answers

@@ -1,9 +1,0 @@
-use Rattle.std.proofs.Common.{rules}
-use Rattle.query_server.specs.Asking.{routed}
-use Rattle.query_server.proofs.EndLaws.{asks_refused, no_memory}
-use Rattle.query_server.proofs.asked.line_asked.Goals as goal
-
-pub returns-in-Err : goal.returns-in-Err
-returns-in-Err c =
-    let head = c.args.head.now in
-    asks_refused (routed head.method.items head.target.items) c.in-Err.why (search rules) (no_memory head.method.items head.target.items)

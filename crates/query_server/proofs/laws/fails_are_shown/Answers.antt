@@ -1,8 +1,0 @@
-use Rattle.query_server.proofs.FailLaws.{failed_shown, garbled_shown}
-use Rattle.query_server.proofs.laws.fails_are_shown.Goals as goal
-
-pub returns-clause-failed : goal.returns-clause-failed
-returns-clause-failed c = failed_shown
-
-pub returns-clause-garbled : goal.returns-clause-garbled
-returns-clause-garbled c = garbled_shown

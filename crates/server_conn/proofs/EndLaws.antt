@@ -1,0 +1,139 @@
+-- How a connection ends, by how its parts did.
+use Rattle.std.proofs.Common.{◌≡◌, ℕ, Bool, true, false, cond, List, codes, inl, inr, Option, Some, None, IfSome, Result, Ok, Err, refl, sym, ap, subst, ◌∙◌}
+use Rattle.std.specs.Result.{IsOk}
+use Rattle.std.specs.Str.{bytes_eq}
+use Rattle.wire.specs.Targets.{Parts, parts_of}
+use Rattle.wire.specs.Heads.{AnswersRequest}
+use Rattle.wire.specs.LinkTold.{Counts}
+use Rattle.wire.specs.declared.fault.WireFault.{WireFault}
+use Rattle.wire.specs.declared.request.Head.{Head}
+use Rattle.wire.specs.Writing.{reply_text}
+use Rattle.wire.specs.declared.writing.Kind.TheVariants.{Text}
+use Rattle.tk_io.specs.Faults.{Rose}
+use Rattle.source_node.specs.Refusals.{status_of, body_of}
+use Rattle.source_pool.specs.declared.hold.Hold.{Hold}
+use Rattle.source_node.specs.Connections.{asks_head}
+use Rattle.source_node.specs.declared.refusal.Refusal.{Refusal}
+use Rattle.source_node.specs.declared.refusal.Refusal.TheVariants.{TooLarge, BadRequest, NotFound, MethodNotAllowed, SourceFailed, NoMemory}
+use Rattle.query_admission.specs.View.{View}
+use Rattle.server_conn.specs.Asking.{by_parts, routed, line_at, line_in, AsksAt, AsksFor}
+use Rattle.server_conn.specs.Becoming.{LineSaid}
+use Rattle.server_conn.specs.Connections.{Visit, Tells, TellsAsked, Serves, ServesHeard, Sends, SendsAnswer, Ends}
+use Rattle.server_conn.specs.declared.conn.ConnEnd.{ConnEnd}
+use Rattle.server_conn.specs.declared.conn.ConnEnd.TheVariants.{LinkFault}
+use Rattle.server_conn.specs.declared.conn.Turn.{Turn}
+
+-- a line that is asked about is on the route
+stands : (at : Result (List ℕ) Refusal) (line : List ℕ) → Ok line ≡ line_at at → IsOk at
+stands (Ok query) line is = refl
+stands (Err why) line is = absurd cc
+
+-- a head that is refused for another reason than memory is refused as it asks
+pub asks_refused : (at : Result (List ℕ) Refusal) (why : Refusal) → at ≡ Err why → (at ≡ Err NoMemory → ⊥) → AsksAt at (Err why)
+asks_refused at NoMemory is other = absurd (other is)
+asks_refused at TooLarge is other = sym (ap line_at is)
+asks_refused at BadRequest is other = sym (ap line_at is)
+asks_refused at NotFound is other = sym (ap line_at is)
+asks_refused at MethodNotAllowed is other = sym (ap line_at is)
+asks_refused at SourceFailed is other = sym (ap line_at is)
+
+-- the route is found without memory
+pub no_memory : (method target : List ℕ) → routed method target ≡ Err NoMemory → ⊥
+no_memory method target is = by_method (bytes_eq method (codes "GET")) is
+  where
+    by_path : (t : Bool) (query : List ℕ) → cond t (Ok query) (Err NotFound) ≡ Err NoMemory → ⊥
+    by_path true query e = absurd cc
+    by_path false query e = absurd cc
+
+    by_target : (parts : Option Parts) → by_parts parts ≡ Err NoMemory → ⊥
+    by_target None e = absurd cc
+    by_target (Some parts) e = by_path (bytes_eq parts.path (codes "/top")) parts.query e
+
+    by_method : (t : Bool) → cond t (by_parts (parts_of target)) (Err MethodNotAllowed) ≡ Err NoMemory → ⊥
+    by_method true e = by_target (parts_of target) e
+    by_method false e = absurd cc
+
+-- the line that a head asks about is told
+pub serves_told : (view : View) (method target : List ℕ) (before now : List Hold) (line : List ℕ) (answer : Result LineSaid Refusal)
+    → Ok line ≡ line_in method target → Tells view line before now answer → Serves view method target before now answer
+serves_told view method target before now line (Ok told) is tells =
+    subst (λ (a : Result (List ℕ) Refusal). TellsAsked view a before now (Ok told)) is tells
+serves_told view method target before now line (Err NoMemory) is tells = stands (routed method target) line is
+serves_told view method target before now line (Err TooLarge) is tells = absurd tells
+serves_told view method target before now line (Err BadRequest) is tells = absurd tells
+serves_told view method target before now line (Err NotFound) is tells = absurd tells
+serves_told view method target before now line (Err MethodNotAllowed) is tells = absurd tells
+serves_told view method target before now line (Err SourceFailed) is tells = absurd tells
+
+pub serves_line : (view : View) (method target : List ℕ) (before now : List Hold) (line bytes : List ℕ) (answer : Result LineSaid Refusal)
+    → Ok line ≡ line_in method target → bytes ≡ line → Tells view bytes before now answer → Serves view method target before now answer
+serves_line view method target before now line bytes answer is same tells =
+    serves_told view method target before now line answer is (subst (λ (b : List ℕ). Tells view b before now answer) same tells)
+
+-- a head that is refused is answered without a look
+pub serves_refused : (view : View) (method target : List ℕ) (holds : List Hold) (why : Refusal) → AsksFor method target (Err why)
+    → Serves view method target holds holds (Err why)
+serves_refused view method target holds NoMemory asks = asks
+serves_refused view method target holds TooLarge asks = subst (λ (a : Result (List ℕ) Refusal). TellsAsked view a holds holds (Err TooLarge)) asks (refl, refl)
+serves_refused view method target holds BadRequest asks = subst (λ (a : Result (List ℕ) Refusal). TellsAsked view a holds holds (Err BadRequest)) asks (refl, refl)
+serves_refused view method target holds NotFound asks = subst (λ (a : Result (List ℕ) Refusal). TellsAsked view a holds holds (Err NotFound)) asks (refl, refl)
+serves_refused view method target holds MethodNotAllowed asks = subst (λ (a : Result (List ℕ) Refusal). TellsAsked view a holds holds (Err MethodNotAllowed)) asks (refl, refl)
+serves_refused view method target holds SourceFailed asks = subst (λ (a : Result (List ℕ) Refusal). TellsAsked view a holds holds (Err SourceFailed)) asks (refl, refl)
+
+-- a request that was answered, where the link took nothing while it was read
+pub replied : (view : View) (visit : Visit) (held : Option (List ℕ)) (faults : ℕ) (heard : Result Head WireFault) (answer : Result LineSaid Refusal) (turn : Turn)
+    → IfSome visit.came (λ bytes. AnswersRequest bytes heard) → visit.read_faults_now ≡ visit.read_faults → held ≡ visit.held → faults ≡ visit.write_faults
+    → ServesHeard view heard visit.before visit.now answer
+    → SendsAnswer (asks_head heard) answer held visit.held_now faults visit.write_faults_now turn → Ends view visit turn
+replied view visit held faults heard answer turn reads quiet same_held same_faults serves sends =
+    inl (
+      record { heard = heard; answer = answer; reads = reads; quiet = quiet; serves = serves },
+      subst (λ (h : Option (List ℕ)). SendsAnswer (asks_head heard) answer h visit.held_now visit.write_faults visit.write_faults_now turn) same_held
+          (subst (λ n. SendsAnswer (asks_head heard) answer held visit.held_now n visit.write_faults_now turn) same_faults sends),
+    )
+
+-- the same where no head was heard, for a fault that is known
+pub unheard : (view : View) (visit : Visit) (held : Option (List ℕ)) (faults mid : ℕ) (fault known : WireFault) (why : Refusal) (turn : Turn) → fault ≡ known
+    → IfSome visit.came (λ bytes. AnswersRequest bytes (Err fault)) → Counts {T = Head} visit.read_faults mid (Err fault)
+    → (Counts {T = Head} visit.read_faults mid (Err known) → mid ≡ visit.read_faults) → visit.read_faults_now ≡ mid
+    → held ≡ visit.held → faults ≡ visit.write_faults → ServesHeard view (Err known) visit.before visit.now (Err why)
+    → SendsAnswer false (Err why) held visit.held_now faults visit.write_faults_now turn → Ends view visit turn
+unheard view visit held faults mid fault known why turn is reads counts quiet later same_held same_faults serves sends =
+    replied view visit held faults (Err known) (Err why) turn (subst (λ (f : WireFault). IfSome visit.came (λ bytes. AnswersRequest bytes (Err f))) is reads)
+    (later ∙ quiet (subst (λ (f : WireFault). Counts {T = Head} visit.read_faults mid (Err f)) is counts)) same_held same_faults serves sends
+
+-- a reply that is sent, by equal figures
+pub refusal_sent : (held held_now : Option (List ℕ)) (faults faults_now status : ℕ) (body : Option (List ℕ)) (is_head : Bool) (why : Refusal) (end : ConnEnd)
+    → status ≡ status_of why → body ≡ body_of is_head why
+    → Sends held held_now faults faults_now status (reply_text status Text body) end
+    → SendsAnswer is_head (Err why) held held_now faults faults_now (record { end = end; moved = false })
+refusal_sent held held_now faults faults_now status body is_head why end one two sends = record {
+  sends = subst (λ n. Sends held held_now faults faults_now n (reply_text n Text (body_of is_head why)) end) one
+      (subst (λ (b : Option (List ℕ)). Sends held held_now faults faults_now status (reply_text status Text b) end) two sends);
+  moved = refl;
+}
+
+pub told_sent : (held held_now : Option (List ℕ)) (faults faults_now : ℕ) (body : List ℕ) (is_head : Bool) (told : LineSaid) (end : ConnEnd) → body ≡ told.text
+    → Sends held held_now faults faults_now 200 (reply_text 200 Text (Some body)) end
+    → SendsAnswer is_head (Ok told) held held_now faults faults_now (record { end = end; moved = told.moved })
+told_sent held held_now faults faults_now body is_head told end is sends = record {
+  sends = subst (λ (b : List ℕ). Sends held held_now faults faults_now 200 (reply_text 200 Text (Some b)) end) is sends;
+  moved = refl;
+}
+
+-- the same by an equal test
+pub by_test : (held held_now : Option (List ℕ)) (faults faults_now : ℕ) (is_head test : Bool) (answer : Result LineSaid Refusal) (turn : Turn) → is_head ≡ test
+    → SendsAnswer is_head answer held held_now faults faults_now turn → SendsAnswer test answer held held_now faults faults_now turn
+by_test held held_now faults faults_now is_head test answer turn is sends = subst (λ t. SendsAnswer t answer held held_now faults faults_now turn) is sends
+
+-- a link that failed while the request was read
+pub unread : (view : View) (visit : Visit) (turn : Turn) → turn ≡ record { end = LinkFault; moved = false } → Rose visit.read_faults visit.read_faults_now
+    → visit.held_now ≡ visit.held → visit.write_faults_now ≡ visit.write_faults → visit.now ≡ visit.before → Ends view visit turn
+unread view visit turn is rose held writes pass = inr (record {
+  end = ap (λ (t : Turn). t.end) is;
+  moved = ap (λ (t : Turn). t.moved) is;
+  rose = rose;
+  held = held;
+  writes = writes;
+  pass = pass;
+})

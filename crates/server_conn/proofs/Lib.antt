@@ -1,0 +1,7 @@
+-- Lemmas on one connection of a query server.
+mod ListLaws
+mod PassLaws
+mod LineLaws
+mod EndLaws
+mod AnswerLaws
+mod FailLaws

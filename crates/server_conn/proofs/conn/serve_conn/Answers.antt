@@ -1,0 +1,112 @@
+use Rattle.std.proofs.Common.{Ok, Err, refl, subst, ◌∙◌}
+use Rattle.wire.specs.LinkTold.{Counts}
+use Rattle.wire.specs.declared.request.Head.{Head}
+use Rattle.wire.specs.declared.fault.WireFault.{WireFault}
+use Rattle.wire.specs.declared.fault.WireFault.TheVariants as heard
+use Rattle.source_node.specs.declared.refusal.Refusal.TheVariants.{TooLarge, BadRequest, NoMemory}
+use Rattle.server_conn.specs.Entries.{view_in}
+use Rattle.server_conn.specs.Connections.{Visit}
+use Rattle.query_run.proofs.KnowsLaws.{knows_same}
+use Rattle.server_conn.proofs.EndLaws.{replied, unheard, unread}
+use Rattle.server_conn.proofs.conn.serve_conn.Goals as goal
+
+pub returns-in-Ok-clause-ends : goal.returns-in-Ok-clause-ends
+returns-in-Ok-clause-ends g c =
+    let r = c.answer_head-turn.ensures.replied in
+    let visit : Visit = record {
+      came = g.L.Intake.left c.args.link.now;
+      held = g.L.Sink.held c.args.link.now;
+      held_now = g.L.Sink.held c.answer_head-turn.new.link;
+      read_faults = g.L.Intake.faults c.args.link.now;
+      read_faults_now = g.L.Intake.faults c.answer_head-turn.new.link;
+      write_faults = g.L.Sink.faults c.args.link.now;
+      write_faults_now = g.L.Sink.faults c.answer_head-turn.new.link;
+      before = c.args.pass.now;
+      now = c.answer_head-turn.new.pass;
+    } in
+    replied (view_in c.args.catalog.now) visit (g.L.Sink.held c.read_request.new.link) (g.L.Sink.faults c.read_request.new.link) (Ok c.in-Ok.head) r.0
+    c.answer_head-turn.result c.in-Ok.ensures.answers (c.answer_head-turn.ensures.incoming.1 ∙ c.in-Ok.ensures.cause) c.read_request.ensures.outgoing.0
+    c.read_request.ensures.outgoing.1 r.1 r.2
+
+pub returns-in-Err-BadMessage-clause-knows : goal.returns-in-Err-BadMessage-clause-knows
+returns-in-Err-BadMessage-clause-knows g c = knows_same c.args.pass.now
+
+pub returns-in-Err-BadMessage-clause-ends : goal.returns-in-Err-BadMessage-clause-ends
+returns-in-Err-BadMessage-clause-ends g c =
+    let visit : Visit = record {
+      came = g.L.Intake.left c.args.link.now;
+      held = g.L.Sink.held c.args.link.now;
+      held_now = g.L.Sink.held c.refuse.new.link;
+      read_faults = g.L.Intake.faults c.args.link.now;
+      read_faults_now = g.L.Intake.faults c.refuse.new.link;
+      write_faults = g.L.Sink.faults c.args.link.now;
+      write_faults_now = g.L.Sink.faults c.refuse.new.link;
+      before = c.args.pass.now;
+      now = c.args.pass.now;
+    } in
+    unheard (view_in c.args.catalog.now) visit (g.L.Sink.held c.read_request.new.link) (g.L.Sink.faults c.read_request.new.link)
+    (g.L.Intake.faults c.read_request.new.link) c.in-Err-BadMessage.field-0 heard.BadMessage BadRequest c.refuse.result c.in-Err-BadMessage.field-0-is c.in-Err-BadMessage.ensures.answers
+    c.in-Err-BadMessage.ensures.cause (λ same. same) c.refuse.ensures.incoming.1 c.read_request.ensures.outgoing.0 c.read_request.ensures.outgoing.1 (refl, refl)
+    c.refuse.ensures.sends
+
+pub returns-in-Err-TooLong-clause-knows : goal.returns-in-Err-TooLong-clause-knows
+returns-in-Err-TooLong-clause-knows g c = knows_same c.args.pass.now
+
+pub returns-in-Err-TooLong-clause-ends : goal.returns-in-Err-TooLong-clause-ends
+returns-in-Err-TooLong-clause-ends g c =
+    let visit : Visit = record {
+      came = g.L.Intake.left c.args.link.now;
+      held = g.L.Sink.held c.args.link.now;
+      held_now = g.L.Sink.held c.refuse-in-Err-TooLong.new.link;
+      read_faults = g.L.Intake.faults c.args.link.now;
+      read_faults_now = g.L.Intake.faults c.refuse-in-Err-TooLong.new.link;
+      write_faults = g.L.Sink.faults c.args.link.now;
+      write_faults_now = g.L.Sink.faults c.refuse-in-Err-TooLong.new.link;
+      before = c.args.pass.now;
+      now = c.args.pass.now;
+    } in
+    unheard (view_in c.args.catalog.now) visit (g.L.Sink.held c.read_request.new.link) (g.L.Sink.faults c.read_request.new.link)
+    (g.L.Intake.faults c.read_request.new.link) c.in-Err-TooLong.field-0 (heard.TooLong _) TooLarge c.refuse-in-Err-TooLong.result c.in-Err-TooLong.field-0-is c.in-Err-TooLong.ensures.answers
+    c.in-Err-TooLong.ensures.cause (λ same. same) c.refuse-in-Err-TooLong.ensures.incoming.1 c.read_request.ensures.outgoing.0 c.read_request.ensures.outgoing.1 (refl, refl)
+    c.refuse-in-Err-TooLong.ensures.sends
+
+pub returns-in-Err-Memory-clause-knows : goal.returns-in-Err-Memory-clause-knows
+returns-in-Err-Memory-clause-knows g c = knows_same c.args.pass.now
+
+pub returns-in-Err-Memory-clause-ends : goal.returns-in-Err-Memory-clause-ends
+returns-in-Err-Memory-clause-ends g c =
+    let visit : Visit = record {
+      came = g.L.Intake.left c.args.link.now;
+      held = g.L.Sink.held c.args.link.now;
+      held_now = g.L.Sink.held c.refuse-in-Err-Memory.new.link;
+      read_faults = g.L.Intake.faults c.args.link.now;
+      read_faults_now = g.L.Intake.faults c.refuse-in-Err-Memory.new.link;
+      write_faults = g.L.Sink.faults c.args.link.now;
+      write_faults_now = g.L.Sink.faults c.refuse-in-Err-Memory.new.link;
+      before = c.args.pass.now;
+      now = c.args.pass.now;
+    } in
+    unheard (view_in c.args.catalog.now) visit (g.L.Sink.held c.read_request.new.link) (g.L.Sink.faults c.read_request.new.link)
+    (g.L.Intake.faults c.read_request.new.link) c.in-Err-Memory.field-0 heard.Memory NoMemory c.refuse-in-Err-Memory.result c.in-Err-Memory.field-0-is c.in-Err-Memory.ensures.answers
+    c.in-Err-Memory.ensures.cause (λ same. same) c.refuse-in-Err-Memory.ensures.incoming.1 c.read_request.ensures.outgoing.0 c.read_request.ensures.outgoing.1 (refl, refl)
+    c.refuse-in-Err-Memory.ensures.sends
+
+pub returns-in-Err-LinkFault-clause-knows : goal.returns-in-Err-LinkFault-clause-knows
+returns-in-Err-LinkFault-clause-knows g c = knows_same c.args.pass.now
+
+pub returns-in-Err-LinkFault-clause-ends : goal.returns-in-Err-LinkFault-clause-ends
+returns-in-Err-LinkFault-clause-ends g c =
+    let visit : Visit = record {
+      came = g.L.Intake.left c.args.link.now;
+      held = g.L.Sink.held c.args.link.now;
+      held_now = g.L.Sink.held c.read_request.new.link;
+      read_faults = g.L.Intake.faults c.args.link.now;
+      read_faults_now = g.L.Intake.faults c.read_request.new.link;
+      write_faults = g.L.Sink.faults c.args.link.now;
+      write_faults_now = g.L.Sink.faults c.read_request.new.link;
+      before = c.args.pass.now;
+      now = c.args.pass.now;
+    } in
+    unread (view_in c.args.catalog.now) visit _ refl
+    (subst (λ (f : WireFault). Counts {T = Head} visit.read_faults visit.read_faults_now (Err f)) c.in-Err-LinkFault.field-0-is c.in-Err-LinkFault.ensures.cause)
+    c.read_request.ensures.outgoing.0 c.read_request.ensures.outgoing.1 refl

@@ -1,0 +1,122 @@
+-- How a connection of a query server ends.
+use Rattle.std.specs.Prelude.{◌≡◌, ◌⊎◌, ⊤, ℕ, Bool, false, List, codes, Option, Some, IfSome, Result, Ok, Err, IsOk}
+use Rattle.std.specs.Str.{bytes_eq}
+use Rattle.std.specs.Io.KnownBytes.{Appends}
+use Rattle.tk_io.specs.Faults.{Rose}
+use Rattle.tk_io.specs.Whole.{TookFront}
+use Rattle.wire.specs.Heads.{AnswersRequest}
+use Rattle.wire.specs.Writing.{reply_text}
+use Rattle.wire.specs.declared.fault.WireFault.{WireFault}
+use Rattle.wire.specs.declared.fault.WireFault.TheVariants as heard
+use Rattle.wire.specs.declared.request.Head.{Head}
+use Rattle.wire.specs.declared.writing.Kind.TheVariants.{Text}
+use Rattle.source_pool.specs.declared.hold.Hold.{Hold}
+use Rattle.source_node.specs.Connections.{asks_head}
+use Rattle.source_node.specs.Refusals.{status_of, body_of}
+use Rattle.source_node.specs.declared.refusal.Refusal.{Refusal}
+use Rattle.source_node.specs.declared.refusal.Refusal.TheVariants.{TooLarge, BadRequest, NoMemory}
+use Rattle.query_admission.specs.View.{View}
+use Rattle.server_conn.specs.Asking.{routed, line_in}
+use Rattle.server_conn.specs.Becoming.{LineSaid, IsLineTold}
+use Rattle.server_conn.specs.declared.conn.ConnEnd.{ConnEnd}
+use Rattle.server_conn.specs.declared.conn.ConnEnd.TheVariants.{Replied, LinkFault}
+use Rattle.server_conn.specs.declared.conn.Turn.{Turn}
+
+-- what stands before and after a connection: the bytes that the link had to give and those that it took, where it tells them, its counts of
+-- faults, and what the pass holds
+pub record Visit : Type 0 where
+  pub came : Option (List ℕ)
+  pub held : Option (List ℕ)
+  pub held_now : Option (List ℕ)
+  pub read_faults : ℕ
+  pub read_faults_now : ℕ
+  pub write_faults : ℕ
+  pub write_faults_now : ℕ
+  pub before : List Hold
+  pub now : List Hold
+
+-- a query line is told, or no memory was left
+abbrev pub Tells : View → List ℕ → List Hold → List Hold → Result LineSaid Refusal → Type 0
+Tells view line before now (Ok told) = IsLineTold view line before now told
+Tells view line before now (Err NoMemory) = ⊤
+Tells view line before now (Err _) = ⊥
+
+-- a query line is told; where a head is refused nothing is looked at
+abbrev pub TellsAsked : View → Result (List ℕ) Refusal → List Hold → List Hold → Result LineSaid Refusal → Type 0
+TellsAsked view (Ok line) before now answer = Tells view line before now answer
+TellsAsked view (Err why) before now answer = (answer ≡ Err why) × (now ≡ before)
+
+-- how a request with this method and this target is answered; want of memory is free where it is on the route
+abbrev pub Serves : View → List ℕ → List ℕ → List Hold → List Hold → Result LineSaid Refusal → Type 0
+Serves view method target before now (Err NoMemory) = IsOk (routed method target)
+Serves view method target before now answer = TellsAsked view (line_in method target) before now answer
+
+-- how what was heard is answered: a head, or bytes that are none or pass a limit, or for which no memory was left
+abbrev pub ServesHeard : View → Result Head WireFault → List Hold → List Hold → Result LineSaid Refusal → Type 0
+ServesHeard view (Ok head) before now answer = Serves view head.method.items head.target.items before now answer
+ServesHeard view (Err heard.BadMessage) before now answer = (answer ≡ Err BadRequest) × (now ≡ before)
+ServesHeard view (Err (heard.TooLong limit)) before now answer = (answer ≡ Err TooLarge) × (now ≡ before)
+ServesHeard view (Err heard.Memory) before now answer = (answer ≡ Err NoMemory) × (now ≡ before)
+ServesHeard view (Err heard.LinkFault) before now answer = ⊥
+
+-- the status of an answer
+abbrev pub status_in : Result LineSaid Refusal → ℕ
+status_in (Ok told) = 200
+status_in (Err why) = status_of why
+
+-- the reply in plain text: what is told, or the reason of a refusal, which has no body in a reply to the method HEAD
+abbrev pub reply_of : Bool → Result LineSaid Refusal → List ℕ
+reply_of is_head (Ok told) = reply_text 200 Text (Some told.text)
+reply_of is_head (Err why) = reply_text (status_of why) Text (body_of is_head why)
+
+-- whether an answer tells that a source moved
+abbrev pub moved_in : Result LineSaid Refusal → Bool
+moved_in (Ok told) = told.moved
+moved_in (Err why) = false
+
+-- a request was read to the end of its head, or as far as it was none or no memory was left, and answered
+pub record IsVisitServed (view : View) (visit : Visit) : Type 0 where
+  pub heard : Result Head WireFault
+  pub answer : Result LineSaid Refusal
+  pub reads : IfSome visit.came (λ bytes. AnswersRequest bytes heard)
+  pub quiet : visit.read_faults_now ≡ visit.read_faults
+  pub serves : ServesHeard view heard visit.before visit.now answer
+
+-- a reply is written whole, with its status, or a front of it and the link failed
+abbrev pub Sends : Option (List ℕ) → Option (List ℕ) → ℕ → ℕ → ℕ → List ℕ → ConnEnd → Type 0
+Sends held held_now faults faults_now status text (Replied said) = (said ≡ status) × Appends held held_now text × (faults_now ≡ faults)
+Sends held held_now faults faults_now status text LinkFault = TookFront held held_now text × Rose faults faults_now
+
+-- a reply was sent of this answer, and it is told whether a source moved
+pub record SendsAnswer (is_head : Bool) (answer : Result LineSaid Refusal) (held held_now : Option (List ℕ)) (faults faults_now : ℕ) (turn : Turn) : Type 0 where
+  pub sends : Sends held held_now faults faults_now (status_in answer) (reply_of is_head answer) turn.end
+  pub moved : turn.moved ≡ moved_in answer
+
+-- the reply to a request that was answered
+abbrev pub SendsReply : (view : View) (visit : Visit) → IsVisitServed view visit → Turn → Type 0
+SendsReply view visit served turn =
+    SendsAnswer (asks_head served.heard) served.answer visit.held visit.held_now visit.write_faults visit.write_faults_now turn
+
+-- the link failed while the request was read: nothing was written, and nothing was looked at
+pub record FailsToRead (visit : Visit) (turn : Turn) : Type 0 where
+  pub end : turn.end ≡ LinkFault
+  pub moved : turn.moved ≡ false
+  pub rose : Rose visit.read_faults visit.read_faults_now
+  pub held : visit.held_now ≡ visit.held
+  pub writes : visit.write_faults_now ≡ visit.write_faults
+  pub pass : visit.now ≡ visit.before
+
+-- how a connection ends: the request was answered, and the reply written or a front of it; or the link failed while the request was read
+abbrev pub Ends : View → Visit → Turn → Type 0
+Ends view visit turn = ((served : IsVisitServed view visit) × SendsReply view visit served turn) ⊎ FailsToRead visit turn
+
+-- a head was answered and the reply written, or a front of it
+abbrev pub IsRepliedTo : View → List ℕ → List ℕ → List Hold → List Hold → Option (List ℕ) → Option (List ℕ) → ℕ → ℕ → Turn → Type 0
+IsRepliedTo view method target before now held held_now faults faults_now turn =
+    (answer : Result LineSaid Refusal) × Serves view method target before now answer
+    × SendsAnswer (bytes_eq method (codes "HEAD")) answer held held_now faults faults_now turn
+
+-- a query line was told and the reply written, or a front of it
+abbrev pub IsLineReplied : View → List ℕ → Bool → List Hold → List Hold → Option (List ℕ) → Option (List ℕ) → ℕ → ℕ → Turn → Type 0
+IsLineReplied view line is_head before now held held_now faults faults_now turn =
+    (answer : Result LineSaid Refusal) × Tells view line before now answer × SendsAnswer is_head answer held held_now faults faults_now turn

@@ -1,0 +1,52 @@
+//! What a request asks of a query server.
+
+ghost use Rattle.std.specs.Prelude.{◌≡◌, Ok};
+ghost use Rattle.std.specs.Cow.{cow_str_bytes};
+ghost use Rattle.std.specs.Result.{result_map_both};
+ghost use Rattle.server_conn.specs.Asking.{routed, AsksFor, AsksAt};
+
+use source_node::Refusal;
+use std::alloc::Global;
+use std::borrow::CowStr;
+use wire::{Head, read_target, value_in};
+
+/// The query line that the head of a request asks about, or why it is refused.
+///
+/// The first that holds decides: a method other than GET is not allowed; a target that doesn't begin with `/` is bad, once it is read as
+/// RFC 9112, section 3.2 says; a path other than `/top` isn't found; and a query part without `q` is bad. The line is the value of the
+/// first `q`, which is empty where that has no `=`. Only a query part takes memory to read.
+pub(crate) fn line_asked<'h>(alloc: Global, head: &'h Head) -> Result<CowStr<'h>, Refusal>
+    ensures { AsksFor head.now.method.items head.now.target.items (result_map_both cow_str_bytes (λ why. why) result) }
+{
+    match routed(head.method.as_slice(), head.target.as_slice()) {
+        Ok(query) => line_at(alloc, query),
+        Err(why) => Err(why),
+    }
+}
+
+/// The query part of a request on the route, by its method and its target.
+fn routed<'t>(method: &[u8], target: &'t [u8]) -> Result<&'t [u8], Refusal>
+    ensures { result_map_both (λ query. query.now) (λ why. why) result ≡ routed method.now target.now }
+{
+    if method != b"GET".as_slice() {
+        return Err(Refusal::MethodNotAllowed);
+    }
+    let Some(target) = read_target(target) else {
+        return Err(Refusal::BadRequest);
+    };
+    if target.path != b"/top".as_slice() {
+        return Err(Refusal::NotFound);
+    }
+    Ok(target.query)
+}
+
+/// The query line of a query part.
+fn line_at<'q>(alloc: Global, query: &'q [u8]) -> Result<CowStr<'q>, Refusal>
+    ensures { AsksAt (Ok query.now) (result_map_both cow_str_bytes (λ why. why) result) }
+{
+    match value_in(alloc, query, "q") {
+        Ok(Some(line)) => Ok(line),
+        Ok(None) => Err(Refusal::BadRequest),
+        Err(_) => Err(Refusal::NoMemory),
+    }
+}

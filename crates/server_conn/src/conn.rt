@@ -1,0 +1,202 @@
+//! One connection of a query server.
+
+ghost use Rattle.std.specs.Prelude.{◌≡◌, true, codes, Some, option_copied, Err};
+ghost use Rattle.std.specs.Str.{bytes_eq};
+ghost use Rattle.wire.specs.Writing.{has_reason, reply_text};
+ghost use Rattle.server_conn.specs.Entries.{view_in, MayAnswer};
+ghost use Rattle.query_run.specs.Advancing.{KnowsAll};
+ghost use Rattle.server_conn.specs.Answers.{Remembers};
+ghost use Rattle.server_conn.specs.Connections.{Ends, Sends, SendsAnswer, IsRepliedTo, IsLineReplied};
+
+use super::answers::Answers;
+use super::asked::line_asked;
+use super::line::tell_line;
+use super::opened::Opened;
+use source_node::Refusal;
+use source_pool::{Pool, PoolPass};
+use std::alloc::Global;
+use std::sync::Wait;
+use tk_io::Link;
+use wire::{Head, Kind, WireFault, read_request, write_reply};
+
+/// How a connection ended.
+#[derive(Clone, Copy, PartialEq, Eq)]
+pub enum ConnEnd {
+    /// The whole reply was written, with this status.
+    Replied { status: u16 },
+    /// A read or a write of the link failed, and its count has gone up. A front of the reply may have been
+    /// written.
+    LinkFault,
+}
+
+/// How a connection ended, and whether its line was refused since a source moved to another version.
+#[derive(Clone, Copy)]
+pub struct Turn {
+    pub end: ConnEnd,
+    pub moved: bool,
+}
+
+/// Answers one request through a pass of the pool, and writes one reply. The request's body isn't read. The call may wait.
+///
+/// The first of these decides the status:
+/// 431 for a head with more bytes or lines than a request may have (`wire::read_request`); 400 for bytes
+/// that are no request, or end before its head is whole; then, by the head, 405 for a method other than GET, 400 for a target that
+/// doesn't begin with `/`, 404 for a path other than `/top` and 400 for a query part without `q`; 503 where no memory is left before
+/// the reply is begun; and else 200.
+///
+/// With 200 the body is the text of what becomes of the bytes of `q` as the first query line of an input, a certificate or a refusal: the
+/// line is admitted over the catalog, and its query runs over the pool. Where the line was answered before through this pass and its answer
+/// is remembered, the body is that answer, and no source is looked at. Every other reply says its reason, but that one to the method HEAD
+/// has no body. All are plain text.
+///
+/// *Cost*: the text of the reply is made in memory before it is written, since its length stands before it. What is remembered is
+/// compared with the line, and written as it stands.
+pub fn serve_conn<L: Link>(
+    rt: &impl Wait,
+    alloc: Global,
+    catalog: &Opened,
+    pool: &Pool,
+    pass: &mut PoolPass,
+    answers: &mut Answers,
+    link: &mut L,
+) -> Turn
+    requires fit { MayAnswer catalog.now pool.now pass.old }
+    requires remembers { Remembers (view_in catalog.now) pass.old answers.old }
+    ensures fit { MayAnswer catalog.now pool.now pass.new }
+    ensures knows { KnowsAll pass.old pass.new }
+    ensures remembers { Remembers (view_in catalog.now) pass.new answers.new }
+    ensures ends { Ends (view_in catalog.now) (record {
+      came = L.left link.old;
+      held = L.held link.old;
+      held_now = L.held link.new;
+      read_faults = L.Intake.faults link.old;
+      read_faults_now = L.Intake.faults link.new;
+      write_faults = L.Sink.faults link.old;
+      write_faults_now = L.Sink.faults link.new;
+      before = pass.old;
+      now = pass.new;
+    }) result }
+{
+    match read_request(alloc, link) {
+        Ok(head) => {
+            let turn = answer_head(rt, alloc, catalog, pool, pass, answers, link, &head);
+            drop(head);
+            turn
+        }
+        Err(WireFault::LinkFault) => Turn {
+            end: ConnEnd::LinkFault,
+            moved: false,
+        },
+        Err(WireFault::BadMessage) => refuse(link, Refusal::BadRequest, false),
+        Err(WireFault::TooLong { .. }) => refuse(link, Refusal::TooLarge, false),
+        Err(WireFault::Memory) => refuse(link, Refusal::NoMemory, false),
+    }
+}
+
+/// Replies to a request with this head.
+fn answer_head<L: Link>(
+    rt: &impl Wait,
+    alloc: Global,
+    catalog: &Opened,
+    pool: &Pool,
+    pass: &mut PoolPass,
+    answers: &mut Answers,
+    link: &mut L,
+    head: &Head,
+) -> Turn
+    requires fit { MayAnswer catalog.now pool.now pass.old }
+    requires remembers { Remembers (view_in catalog.now) pass.old answers.old }
+    ensures fit { MayAnswer catalog.now pool.now pass.new }
+    ensures knows { KnowsAll pass.old pass.new }
+    ensures remembers { Remembers (view_in catalog.now) pass.new answers.new }
+    ensures apart { L.Sink.aside link.new ≡ L.Sink.aside link.old }
+    ensures incoming { (L.left link.new ≡ L.left link.old) × (L.Intake.faults link.new ≡ L.Intake.faults link.old) }
+    ensures replied { IsRepliedTo (view_in catalog.now) head.now.method.items head.now.target.items pass.old pass.new
+        (L.held link.old) (L.held link.new) (L.Sink.faults link.old) (L.Sink.faults link.new) result }
+{
+    let is_head = is_head(head);
+    match line_asked(alloc, head) {
+        Ok(line) => {
+            let bytes = line.as_str().as_bytes();
+            let turn = answer_line(
+                rt, alloc, catalog, pool, pass, answers, link, bytes, is_head,
+            );
+            drop(line);
+            turn
+        }
+        Err(why) => refuse(link, why, is_head),
+    }
+}
+
+/// Whether the method is HEAD.
+fn is_head(head: &Head) -> bool
+    ensures { result ≡ bytes_eq head.now.method.items (codes "HEAD") }
+{
+    head.method.as_slice() == b"HEAD".as_slice()
+}
+
+/// Replies to a request for a query line: by the answer that is remembered of it, or by what is told of it now.
+fn answer_line<L: Link>(
+    rt: &impl Wait,
+    alloc: Global,
+    catalog: &Opened,
+    pool: &Pool,
+    pass: &mut PoolPass,
+    answers: &mut Answers,
+    link: &mut L,
+    line: &[u8],
+    is_head: bool,
+) -> Turn
+    requires fit { MayAnswer catalog.now pool.now pass.old }
+    requires remembers { Remembers (view_in catalog.now) pass.old answers.old }
+    ensures fit { MayAnswer catalog.now pool.now pass.new }
+    ensures knows { KnowsAll pass.old pass.new }
+    ensures remembers { Remembers (view_in catalog.now) pass.new answers.new }
+    ensures apart { L.Sink.aside link.new ≡ L.Sink.aside link.old }
+    ensures incoming { (L.left link.new ≡ L.left link.old) × (L.Intake.faults link.new ≡ L.Intake.faults link.old) }
+    ensures replied { IsLineReplied (view_in catalog.now) line.now is_head pass.old pass.new
+        (L.held link.old) (L.held link.new) (L.Sink.faults link.old) (L.Sink.faults link.new) result }
+{
+    if let Some(text) = answers.find(line) {
+        return Turn {
+            end: send(link, 200, Some(text)),
+            moved: false,
+        };
+    }
+    match tell_line(rt, alloc, catalog, pool, pass, line) {
+        Ok(told) => {
+            let end = send(link, 200, Some(told.text.as_slice()));
+            let moved = told.moved;
+            answers.keep(alloc, line, &told);
+            drop(told);
+            Turn { end, moved }
+        }
+        Err(why) => refuse(link, why, is_head),
+    }
+}
+
+/// Writes the reply of a refusal, which has no body where the method is HEAD.
+fn refuse<L: Link>(link: &mut L, why: Refusal, is_head: bool) -> Turn
+    ensures apart { L.Sink.aside link.new ≡ L.Sink.aside link.old }
+    ensures incoming { (L.left link.new ≡ L.left link.old) × (L.Intake.faults link.new ≡ L.Intake.faults link.old) }
+    ensures sends { SendsAnswer is_head (Err why) (L.held link.old) (L.held link.new) (L.Sink.faults link.old) (L.Sink.faults link.new) result }
+{
+    Turn {
+        end: send(link, why.status(), why.body(is_head)),
+        moved: false,
+    }
+}
+
+/// Writes a reply in plain text.
+fn send<L: Link>(link: &mut L, status: u16, body: Option<&[u8]>) -> ConnEnd
+    requires { has_reason status ≡ true }
+    ensures apart { L.Sink.aside link.new ≡ L.Sink.aside link.old }
+    ensures incoming { (L.left link.new ≡ L.left link.old) × (L.Intake.faults link.new ≡ L.Intake.faults link.old) }
+    ensures sends { Sends (L.held link.old) (L.held link.new) (L.Sink.faults link.old) (L.Sink.faults link.new)
+        status (reply_text status Kind.Text (option_copied body.entry)) result }
+{
+    match write_reply(link, status, Kind::Text, body) {
+        Ok(()) => ConnEnd::Replied { status },
+        Err(_) => ConnEnd::LinkFault,
+    }
+}
