@@ -19,7 +19,7 @@ use Rattle.fetcher.proofs.ReachLaws.{reach_more, reach_within}
 use Rattle.limits.specs.declared.settings.Settings.{Settings}
 use Rattle.limits.specs.Ranges.{AreSettings}
 use Rattle.batch_result.specs.declared.batch.Use.{Use}
-use Rattle.batch_result.specs.Account.{Reading, IsWithin, deepest, one_reading, one_readings, random_accesses}
+use Rattle.batch_result.specs.Account.{Reading, IsWithin, deepest, one_reading, one_readings}
 use Rattle.batch_result.specs.Batches.{BatchRun, BatchState, IsBatch, run_of, size_at, use_at}
 use Rattle.batch_result.specs.Cut.{IsCut, IsReadBy, begun}
 use Rattle.batch_result.specs.Numbered.{counts_at}

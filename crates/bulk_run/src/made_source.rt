@@ -1,6 +1,6 @@
 //! A made list as a source.
 
-ghost use Rattle.std.specs.Prelude.{◌≡◌, ◌+◌, [], All, length, IfOk};
+ghost use Rattle.std.specs.Prelude.{◌≡◌, ◌+◌, [], length, IfOk};
 ghost use Rattle.bulk_run.specs.Held.{fresh, grade_at, AreSmall, AreGradesOf};
 
 use super::Memory;

@@ -111,7 +111,7 @@ impl Reader {
         ensures { (text : List ℕ) → part_read line.entry ≡ part_of text
             → TakesLines (text ∷ []) (front_of self.old) number self.new result }
     {
-        // As these two are, the number is far from the greatest.
+        // Serves the prover alone: as both are small, one can be added to the number.
         let _lists = self.number;
         let _rows = self.rows.len();
         let Ok(took) = self.take_line(alloc, line) else {

@@ -1,6 +1,6 @@
 //! The text of a line's outcome, made before it is written.
 
-ghost use Rattle.std.specs.Prelude.{◌≡◌, [], None, IfSome, option_map};
+ghost use Rattle.std.specs.Prelude.{◌≡◌, None, IfSome, option_map};
 ghost use Rattle.line_outcome.specs.LineOutcomes.{CanBeWritten};
 ghost use Rattle.catalog_run.specs.Running.{line_text};
 

@@ -1,6 +1,6 @@
 //! The outcomes of lines from what they came to before they ran and how their queries ended.
 
-ghost use Rattle.std.specs.Prelude.{◌≡◌, ◌≤◌, ◌<◌, ◌∷◌, [], List, IfOk, OnOk, length, reverse, vec_len, vec_capacity};
+ghost use Rattle.std.specs.Prelude.{◌≡◌, ◌≤◌, ◌<◌, ◌∷◌, [], List, IfOk, OnOk, reverse, vec_len, vec_capacity};
 ghost use Rattle.catalog_open.specs.declared.admissions.Stage.{Stage as AnyStage};
 ghost use Rattle.catalog_open.specs.declared.admissions.Stage.TheVariants as stage;
 ghost use Rattle.catalog_run.specs.Merging.{Fit, Merges, Nexts};

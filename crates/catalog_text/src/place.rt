@@ -1,6 +1,6 @@
 //! What the place of a list is.
 
-ghost use Rattle.std.specs.Prelude.{◌≡◌, ◌↔◌, ℕ, List, Some, option_map, MatchOption, IsSome, IsTrue};
+ghost use Rattle.std.specs.Prelude.{◌≡◌, ℕ, List, Some, option_map, MatchOption};
 ghost use Rattle.catalog_text.specs.Places.{is_remote, IsHost, IsPath, IsAddress, IsPathOrAddress, IsLocation};
 ghost use Rattle.catalog_text.specs.Pieces.{port_in, host_and_port, authority_and_path, pieces_in, pieces_now, IsOf};
 ghost use Rattle.line_text.specs.Cuts.{cut_at};

@@ -1,7 +1,6 @@
 //! Reading a catalog.
 
-ghost use Rattle.std.specs.Prelude.{◌≡◌, [], ℕ, List, OnOk, option_map};
-ghost use Rattle.csv.specs.Records.{fields_of};
+ghost use Rattle.std.specs.Prelude.{ℕ, List, option_map};
 ghost use Rattle.csv_records.specs.Records.{records_of};
 ghost use Rattle.catalog_text.specs.Judging.{Judges};
 ghost use Rattle.catalog_text.specs.Listed.{listed_parts};

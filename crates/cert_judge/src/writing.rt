@@ -1,7 +1,6 @@
 //! What is told of a text, written.
 
 ghost use Rattle.std.specs.Prelude.{◌++◌, ◌∷◌, [], OnOk, OnErr};
-ghost use Rattle.std.specs.Fmt.{decimal};
 ghost use Rattle.std.specs.Io.KnownBytes.{Appends};
 ghost use Rattle.tk_io.specs.Faults.{HasCause};
 ghost use Rattle.tk_io.specs.Whole.{TookFront};

@@ -5,7 +5,7 @@ use Rattle.clap.proofs.OnLiterals.{clap_on_literals}
 use Rattle.command_words.specs.Line.{Given}
 use Rattle.command_words.specs.OptionNumbers.{text_by}
 use Rattle.command_words.specs.Node.{listening_in, listening_of, at_rule, conns_rule}
-use Rattle.command_words.specs.Running.{settings_in, settings_of}
+use Rattle.command_words.specs.Running.{settings_in}
 use Rattle.command_words.specs.Serving.{serve_app, serve_takes, serve_given, serve_in, serve_of}
 use Rattle.command_words.specs.Taking.{given_text}
 use Rattle.command_words.specs.declared.node.Listening.{Listening}

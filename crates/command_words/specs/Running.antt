@@ -1,5 +1,5 @@
 -- Which words are those of `run`, and what they ask for.
-use Rattle.std.specs.Prelude.{ℕ, ◌≤◌, false, List, [], ◌∷◌, Option, codes, drop}
+use Rattle.std.specs.Prelude.{ℕ, false, List, [], ◌∷◌, Option, codes, drop}
 use Rattle.std.specs.Option.{option_and_then, option_map}
 use Rattle.clap.specs.Words.{App, Row, first_of, with_rule}
 use Rattle.command_words.specs.Apps.{bare_app, free_option, needed_place}

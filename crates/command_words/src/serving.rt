@@ -1,6 +1,6 @@
 //! The words of `serve`.
 
-ghost use Rattle.std.specs.Prelude.{◌≡◌, ◌≤◌, None, Some, IfOk};
+ghost use Rattle.std.specs.Prelude.{◌≡◌, None, Some, IfOk};
 ghost use Rattle.clap.specs.Words.{rows_of, found_of};
 ghost use Rattle.command_words.specs.Serving.{serve_options, serve_in};
 ghost use Rattle.limits.specs.Ranges.{AreSettings};

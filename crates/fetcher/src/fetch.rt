@@ -1,12 +1,11 @@
 //! The turns of a fetcher.
 
-ghost use Rattle.std.specs.Prelude.{◌≡◌, ◌≢◌, ◌≤◌, ◌+◌, ◌<◌, ◌^◌, ℕ, Some, None, length, OnErr};
-ghost use Rattle.source_state.specs.Log.{rows_in, fault_in};
-ghost use Rattle.source_state.specs.State.{State as StateOf, asked_in};
+ghost use Rattle.std.specs.Prelude.{◌≡◌, ◌≢◌, ◌≤◌, ◌+◌, ◌<◌, ℕ, Some, None, length};
+ghost use Rattle.source_state.specs.State.{State as StateOf};
 ghost use Rattle.source_state.specs.Events.{MayCome};
 ghost use Rattle.source_state.specs.Looking.{reach_of};
 ghost use Rattle.source_pool.specs.Passes.{IsIdleOf};
-ghost use Rattle.source_api.specs.Counting.{NoneFell, GaveNothing};
+ghost use Rattle.source_api.specs.Counting.{NoneFell};
 ghost use Rattle.fetcher.specs.Turning.{IsFound, Feeds, IsPlanned, IsFed, Brings, MayTellPage, MayTellGrade, MayFetch, IsNext};
 ghost use Rattle.fetcher.specs.Turning.{settled_by, answer_by, troubled_by, IsOfSource};
 ghost use Rattle.fetcher.specs.Calling.{IsLooked, PutsEvent, CalledForPage, CalledForGrade, IsFetchTurn};

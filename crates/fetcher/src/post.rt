@@ -1,6 +1,5 @@
 //! Turns of whoever has the slot of a source: a fetcher, or a worker that would wait for the source.
 
-ghost use Rattle.std.specs.Prelude.{◌≡◌};
 ghost use Rattle.fetcher.specs.Serving.{IsServed};
 
 use super::fetch::{counted, fetch_turn};

@@ -1,6 +1,6 @@
 //! A source over the bytes of a list file.
 
-ghost use Rattle.std.specs.Prelude.{◌≡◌, ◌≤◌, ◌<◌, ℕ, nat_eq, length, take, drop, map, vec_len, Some, None, Contains, MatchOption, IfOk, IfErr, IfSome, OnOk, OnErr};
+ghost use Rattle.std.specs.Prelude.{◌≡◌, ◌≤◌, ◌<◌, length, take, drop, map, vec_len, Some, None, Contains, MatchOption, IfOk, IfErr, IfSome, OnOk, OnErr};
 ghost use Rattle.source_api.specs.Counting.{no_counts, NoneFell, TroubleHasCause, CountsAlone, MovedHasCause, GaveNothing, GaveRows, GaveGrade, gave_rows, gave_grade};
 ghost use Rattle.source_api.specs.Told.{IsPage, IsGrade, first_grade};
 ghost use Rattle.file_source.specs.ListFile.{list_records, rows_among, told_records};

@@ -1,6 +1,6 @@
 //! The records of a list file.
 
-ghost use Rattle.std.specs.Prelude.{◌≡◌, ◌&&◌, [], not, ℕ, List, nat_eq, option_map, IfOk, OnOk};
+ghost use Rattle.std.specs.Prelude.{◌≡◌, ◌&&◌, [], not, option_map, IfOk, OnOk};
 ghost use Rattle.csv.specs.Records.{fields_of};
 ghost use Rattle.file_source.specs.ListFile.{pair_in, row_of_pair, is_header_pair, list_records};
 ghost use Rattle.std.specs.List.{list_any};

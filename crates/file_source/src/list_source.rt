@@ -1,6 +1,6 @@
 //! A source over a list file whose records are read at its first call.
 
-ghost use Rattle.std.specs.Prelude.{◌≡◌, OnOk};
+ghost use Rattle.std.specs.Prelude.{◌≡◌};
 ghost use Rattle.source_api.specs.Counting.{no_counts};
 ghost use Rattle.file_source.specs.ListFile.{list_records};
 

@@ -1,6 +1,6 @@
 //! The table on which an answer is beaten.
 
-ghost use Rattle.std.specs.Prelude.{◌≡◌, ◌≢◌, ◌+◌, ◌<◌, ◌≤◌, ◌^◌, ◌++◌, ◌&&◌, [], ◌∷◌, ℕ, not, filter, length, map, take, nat_lt, AllPairs, Contains, IfOk, OnOk, if◌then◌else◌};
+ghost use Rattle.std.specs.Prelude.{◌≡◌, ◌≢◌, ◌+◌, ◌<◌, ◌^◌, ◌++◌, ◌&&◌, [], ◌∷◌, ℕ, not, filter, length, nat_lt, AllPairs, Contains, IfOk, OnOk, if◌then◌else◌};
 ghost use Rattle.ranked_list.specs.declared.row.Row.{Row};
 ghost use Rattle.ranked_list.specs.Table.{objects};
 ghost use Rattle.topk_theory.specs.Transcript.{IsTame, seen_objects, sorted_rows};

@@ -3,7 +3,7 @@
 ghost use Rattle.std.specs.Prelude.{◌≡◌, ◌≢◌, ◌+◌, ◌<◌, ◌^◌, ℕ, length, All, AllPairs, Contains, IfOk, MatchOption};
 ghost use Rattle.topk_theory.specs.Transcript.{IsTame, seen_objects};
 ghost use Rattle.access_log.specs.Log.{IsConsistent};
-ghost use Rattle.judge_core.specs.Judging.{IsFirstWildGuess, IsSized, IsFirstUnseen};
+ghost use Rattle.judge_core.specs.Judging.{IsFirstWildGuess, IsFirstUnseen};
 ghost use Rattle.judge_core.specs.Question.{seen_after, HasSize};
 
 use super::Memory;

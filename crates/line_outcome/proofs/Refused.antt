@@ -1,5 +1,5 @@
 -- A line that is refused.
-use Rattle.std.proofs.Common.{◌≡◌, ℕ, ◌+◌, List, [], ◌∷◌, Option, sym, ap, subst}
+use Rattle.std.proofs.Common.{◌≡◌, ℕ, List, [], Option, sym, ap, subst}
 use Rattle.cert_text.specs.declared.outcome.Outcome.TheVariants.{Refused as IsRefusedNow}
 use Rattle.cert_text.specs.declared.refusal.Refusal.{Refusal}
 use Rattle.query_text.specs.declared.query.Query.{Query}

@@ -1,9 +1,8 @@
 //! Reading of query lines.
 
-ghost use Rattle.std.specs.Prelude.{◌≡◌, ◌≤◌, ◌<◌, ◌+◌, length, OnOk, IfOk, IfErr, Some, None, Err, true, false, take, drop, vec_len, []};
+ghost use Rattle.std.specs.Prelude.{◌≡◌, ◌≤◌, ◌<◌, ◌+◌, length, OnOk, IfOk, IfErr, Some, None, Err, take, drop, vec_len};
 ghost use Rattle.query_text.specs.Reading.{Reads, IsReadBack};
-ghost use Rattle.query_text.specs.Course.{course_view, is_open};
-ghost use Rattle.query_text.specs.Words.{class_at, is_whole};
+ghost use Rattle.query_text.specs.Words.{is_whole};
 ghost use Rattle.query_text.specs.Draft.{names_of};
 ghost use Rattle.query_text.specs.Reached.{Reached, StepTakes, WordFound, IsDraftOf, WordsRead};
 ghost use Rattle.query_text.specs.Finish.{Finishes, IsFair, TestsFactor, IsSmall};

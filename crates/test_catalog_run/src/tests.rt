@@ -1,7 +1,6 @@
 //! Query lines over lists of which one has a name of one byte, and all others have another answer.
 
 ghost use Rattle.std.specs.Prelude.{◌==◌, length, None, if◌then◌else◌};
-ghost use Rattle.query_admission.specs.View.{View};
 
 use cert_text::Refusal;
 use query_admission::{Admitted, Listed, Lists, admit};

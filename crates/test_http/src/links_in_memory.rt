@@ -1,6 +1,6 @@
 //! Links in memory, each fault in turn, and what a dropped link leaves.
 
-ghost use Rattle.std.specs.Prelude.{◌≡◌, ◌≤◌, All, IfOk, OnOk, vec_len};
+ghost use Rattle.std.specs.Prelude.{All, IfOk};
 ghost use Rattle.tk_io.specs.LinksInMemory.{IsUnused};
 
 use super::holds;

@@ -1,10 +1,8 @@
 //! A shelf that stands in memory.
 
-ghost use Rattle.std.specs.Prelude.{◌≡◌, ◌∷◌, [], true, ℕ, List, Option, Some, vec_len, IfOk, IfErr, IfSome, OnOk, OnErr, option_map};
+ghost use Rattle.std.specs.Prelude.{◌≡◌, ◌∷◌, [], ℕ, List, Option, Some, OnOk, OnErr, option_map};
 ghost use Rattle.std.specs.Option.{option_and_then};
-ghost use Rattle.source_api.specs.Counting.{no_counts};
-ghost use Rattle.test_mem_source.specs.InMemory.{told_list, unused, next_call};
-ghost use Rattle.source_api.specs.Places.{counts_at, is_known, SameAtEach, SameElsewhere, put_back_at};
+ghost use Rattle.source_api.specs.Places.{counts_at, is_known, SameElsewhere, put_back_at};
 ghost use Rattle.test_mem_source.specs.Shelved.{Shelved, text_at, source_at};
 ghost use Rattle.test_mem_source.specs.OnShelf.{placed_texts, placed_sources, in_limit, AnswersText, AnswersTake, AfterText, AfterTake};
 

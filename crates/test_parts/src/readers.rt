@@ -1,4 +1,4 @@
-ghost use Rattle.std.specs.Prelude.{◌≡◌, ◌+◌, ◌<◌, ◌≤◌, length, true, None, All, IfOk, vec_len};
+ghost use Rattle.std.specs.Prelude.{◌≡◌, ◌+◌, ◌<◌, All, vec_len};
 ghost use Rattle.turn_lock.specs.Known.{all_parts};
 ghost use Rattle.test_parts.specs.Readers.{IsReady, IsWriter};
 

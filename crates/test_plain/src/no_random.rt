@@ -1,6 +1,6 @@
 //! The algorithm without random access of Fagin, Lotem and Naor on a whole table.
 
-ghost use Rattle.std.specs.Prelude.{◌≡◌, ◌≤◌, ◌==◌, ◌||◌, IfOk, not, length, map};
+ghost use Rattle.std.specs.Prelude.{◌≡◌, ◌≤◌, ◌==◌, ◌||◌, IfOk, not, length};
 ghost use Rattle.std.specs.List.{list_any, list_all};
 ghost use Rattle.topk_theory.specs.Order.{kth_low};
 ghost use Rattle.topk_theory.specs.Bounds.{high};

@@ -1,9 +1,7 @@
 -- A reader of a pool that was opened, and after a look.
-use Rattle.std.proofs.Common.{◌≡◌, ◌≤◌, ◌<◌, ◌∷◌, [], ℕ, List, length, refl, sym, ap, subst, ◌∙◌, arith}
+use Rattle.std.proofs.Common.{◌≤◌, ◌∷◌, [], ℕ, List, sym, ap, subst, ◌∙◌, arith}
 use Rattle.ranked_list.specs.declared.need.Need.TheVariants as need
 use Rattle.atomic_table.specs.Seated.{TableId}
-use Rattle.turn_lock.specs.declared.known.Known.{Known}
-use Rattle.source_state.specs.declared.entry.LogEntry.{LogEntry}
 use Rattle.source_pool.specs.declared.hold.Hold.{Hold}
 use Rattle.source_pool.specs.Passes.{Feed, hold_at, IsPassOf}
 use Rattle.source_pool.specs.Looks.{KnowsOn}

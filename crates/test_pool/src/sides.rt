@@ -1,6 +1,6 @@
 //! The two sides of a run over one source.
 
-ghost use Rattle.std.specs.Prelude.{◌≡◌, ◌≤◌, ◌<◌, ◌+◌, length};
+ghost use Rattle.std.specs.Prelude.{◌≤◌, ◌<◌, ◌+◌};
 ghost use Rattle.source_pool.specs.Passes.{IsIdleOf};
 ghost use Rattle.test_pool.specs.Reading.{IsReader};
 

@@ -1,6 +1,6 @@
 //! Links that come to a port, and what is left of them.
 
-ghost use Rattle.std.specs.Prelude.{◌≡◌, All, IfOk};
+ghost use Rattle.std.specs.Prelude.{All, IfOk};
 ghost use Rattle.tk_io.specs.LinksInMemory.{IsUnused};
 
 use std::alloc::Global;

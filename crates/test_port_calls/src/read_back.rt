@@ -1,6 +1,6 @@
 //! A node's replies, read by a source that asks a node.
 
-ghost use Rattle.std.specs.Prelude.{◌≡◌, All, IfOk};
+ghost use Rattle.std.specs.Prelude.{All, IfOk};
 ghost use Rattle.tk_io.specs.LinksInMemory.{IsUnused};
 
 use super::cases::{CATALOG, LISTS, SOURCES, options_of};

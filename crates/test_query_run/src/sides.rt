@@ -1,6 +1,6 @@
 //! The sides of a run over two sources.
 
-ghost use Rattle.std.specs.Prelude.{◌≡◌, ◌≤◌, ◌∷◌, []};
+ghost use Rattle.std.specs.Prelude.{◌≤◌, ◌∷◌, []};
 ghost use Rattle.source_pool.specs.Passes.{IsIdleOf};
 ghost use Rattle.test_query_support.specs.Pairs.{IsPair};
 ghost use Rattle.query_run.specs.Made.{IsReadyFor};

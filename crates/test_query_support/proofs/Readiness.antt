@@ -1,6 +1,5 @@
 -- What steps leave of a pool of one source.
-use Rattle.std.proofs.Common.{◌≡◌, ◌≤◌, ◌<◌, ◌+◌, ◌-◌, ◌∷◌, [], inl, inr, ℕ, List, length, refl, sym, ap, subst, ◌∙◌, arith}
-use Rattle.std.specs.Prelude.{slice_index}
+use Rattle.std.proofs.Common.{◌≡◌, ◌≤◌, ◌<◌, ◌+◌, ◌-◌, ◌∷◌, [], ℕ, List, length, refl, sym, ap, subst, ◌∙◌, arith}
 use Rattle.ranked_list.specs.declared.need.Need.{Need}
 use Rattle.ranked_list.specs.declared.need.Need.TheVariants as need
 use Rattle.atomic_table.specs.Seated.{TableId}
@@ -12,7 +11,7 @@ use Rattle.source_pool.specs.declared.hold.Hold.{Hold}
 use Rattle.source_pool.specs.Holds.{IsFree}
 use Rattle.source_pool.specs.Passes.{Feed, lock_at, hold_at, feed_at, IsPassOf, IsIdleOf, AreFeedersOf, turned}
 use Rattle.source_pool.specs.Looks.{MayLookFor, KnowsOn}
-use Rattle.source_pool.specs.Sharing.{first_hold, first_feed, IsOpened, MaySplit, IsSplit, IsJoined}
+use Rattle.source_pool.specs.Sharing.{first_feed, IsOpened, MaySplit, IsSplit, IsJoined}
 use Rattle.source_pool.specs.Closed.{HaveAll}
 use Rattle.fetcher.specs.Turning.{Feeds}
 use Rattle.test_query_support.specs.declared.desk.Desk.{Desk}

@@ -1,6 +1,6 @@
 //! A pool of one source with two passes and its feeder, and steps with what they are to answer.
 
-ghost use Rattle.std.specs.Prelude.{◌≡◌, ◌≤◌, ◌<◌, ◌+◌, ◌∷◌, [], ℕ, true, length, IfSome, OnSome};
+ghost use Rattle.std.specs.Prelude.{◌≡◌, ◌≤◌, ◌<◌, ◌+◌, ◌∷◌, [], true, length, IfSome};
 ghost use Rattle.source_pool.specs.Passes.{hold_at, feed_at, IsPassOf, AreFeedersOf};
 ghost use Rattle.turn_lock.specs.Known.{all_parts};
 ghost use Rattle.test_query_support.specs.Ready.{IsReady, MayAsk};

@@ -1,6 +1,6 @@
 //! Calls of the dial and of its links that fail, each in turn, and what is counted then.
 
-ghost use Rattle.std.specs.Prelude.{◌≡◌, All, IfOk};
+ghost use Rattle.std.specs.Prelude.{All, IfOk};
 ghost use Rattle.tk_io.specs.LinksInMemory.{IsUnused};
 
 use super::holds;

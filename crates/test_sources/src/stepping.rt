@@ -1,6 +1,6 @@
 //! Calls on a source, one after another, each with the link that it gets.
 
-ghost use Rattle.std.specs.Prelude.{◌≡◌, ◌<◌, All, IfOk, IfSome};
+ghost use Rattle.std.specs.Prelude.{◌<◌, All, IfOk};
 ghost use Rattle.tk_io.specs.LinksInMemory.{IsUnused};
 
 use http_source::HttpSource;

@@ -1,7 +1,5 @@
 //! The words of a command line.
 
-ghost use Rattle.std.specs.Prelude.{◌≡◌};
-
 use super::Unmade;
 use command_words::Words;
 use std::alloc::Global;

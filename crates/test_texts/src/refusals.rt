@@ -1,6 +1,6 @@
 //! Refusals, each as its line.
 
-ghost use Rattle.std.specs.Prelude.{◌≡◌, [], Some, IsTrue};
+ghost use Rattle.std.specs.Prelude.{[], Some, IsTrue};
 ghost use Rattle.std.specs.Option.{option_copied};
 ghost use Rattle.cert_text.specs.declared.outcome.Outcome.TheVariants.{Refused};
 ghost use Rattle.cert_text.specs.Outcome.{IsOutcome};

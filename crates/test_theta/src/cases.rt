@@ -1,8 +1,5 @@
 //! Queries with what is wanted of them.
 
-ghost use Rattle.std.specs.Prelude.{◌≡◌};
-ghost use Rattle.monotone_fn.specs.Shape.{list_count};
-
 use access_log::Transcript;
 use guarantee::{Guarantee, guarantee};
 use machine_base::Answer;

@@ -1,6 +1,6 @@
 //! Laws of the threshold algorithm stopped within a factor, and early, over whole tables.
 
-ghost use Rattle.std.specs.Prelude.{◌≡◌, ◌<◌, ◌≤◌, ◌*◌, ◌↔◌, ℕ, min, List, length, map, All, Contains};
+ghost use Rattle.std.specs.Prelude.{◌≡◌, ◌<◌, ◌≤◌, ◌↔◌, ℕ, min, List, length, map, All, Contains};
 ghost use Rattle.ranked_list.specs.declared.row.Row.{Row};
 ghost use Rattle.monotone_fn.specs.Value.{IsMonotone, IsLeast, least};
 ghost use Rattle.topk_theory.specs.declared.access.Access.{Access};

@@ -1,5 +1,5 @@
 -- A reply that was written into memory, and how it is told to the caller.
-use Rattle.std.proofs.Common.{◌≡◌, ◌⊎◌, inl, inr, ℕ, List, [], Some, sym, subst}
+use Rattle.std.proofs.Common.{◌≡◌, inl, inr, ℕ, List, [], Some, sym, subst}
 use Rattle.bundle_text.specs.declared.given.GivenList.{GivenList}
 use Rattle.bundle_calls.specs.Reply.{RepliesToLines, outcome_status}
 use Rattle.bundle_calls.specs.Lists.{RepliesToLists, printed_lines}

@@ -1,6 +1,6 @@
 //! A text that a caller gives, as an input.
 
-ghost use Rattle.std.specs.Prelude.{◌≡◌, ◌≤◌, ◌++◌, length, drop};
+ghost use Rattle.std.specs.Prelude.{◌≡◌};
 
 use std::marker::Model;
 use tk_io::{Failed, Intake};

@@ -1,6 +1,6 @@
 //! A text that a command writes into memory, as an output.
 
-ghost use Rattle.std.specs.Prelude.{◌≡◌, [], ◌<◌, length, IfOk, Some};
+ghost use Rattle.std.specs.Prelude.{◌≡◌, [], ◌<◌, Some};
 
 use std::alloc::Global;
 use std::marker::Model;

@@ -1,5 +1,5 @@
 -- The sources that a run opened, whether it came to its end or memory was wanting for it.
-use Rattle.std.proofs.Common.{◌≡◌, ◌<◌, ℕ, zero, suc, List, [], ◌∷◌, All, length, reverse, take, inl, inr, Some, slice_get, slice_index_or, refl, sym, subst, ◌∙◌, arith}
+use Rattle.std.proofs.Common.{◌≡◌, ◌<◌, ℕ, zero, suc, List, [], ◌∷◌, All, length, reverse, take, inl, inr, Some, slice_get, slice_index_or, refl, sym, subst, ◌∙◌}
 use Rattle.std.proofs.lemmas.Bool.{cases_lt}
 use Rattle.std.proofs.lemmas.List.{get_or_past}
 use Rattle.topk_theory.proofs.AgreementLists.{all_from_members, member_of_all}

@@ -1,6 +1,6 @@
 //! The law of a node's answers that a source over its host reads.
 
-ghost use Rattle.std.specs.Prelude.{◌≡◌, ◌<◌, ◌≤◌, ◌^◌, ℕ, List, Option, Result, All, drop, length, take};
+ghost use Rattle.std.specs.Prelude.{◌<◌, ◌≤◌, ◌^◌, ℕ, List, Option, Result, All, drop, length, take};
 ghost use Rattle.std.specs.Global.{Vec};
 ghost use Rattle.limits.specs.declared.TheConstants.{MAX_PAGE};
 ghost use Rattle.ranked_list.specs.declared.row.Row.{Row};

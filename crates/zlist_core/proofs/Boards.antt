@@ -1,6 +1,6 @@
 -- The board: after a row, with the new objects of a depth, whether the machine stops, and what comes first.
-use Rattle.std.proofs.Common.{◌≡◌, ◌≢◌, ◌↔◌, ℕ, zero, suc, ◌+◌, ◌<◌, ◌≤◌, ◌==◌, ◌||◌, inl, inr, Bool, true, false, List, [], ◌∷◌, ◌++◌, length, map, take, drop, filter, count_by, nat_le, min, AllPairs, Contains, Some, slice_get, refl, sym, ap, ap₂, subst, ◌∙◌, arith, take-append-drop}
-use Rattle.std.proofs.lemmas.Bool.{cases_Bool, true≢false, leb-true, le-leb}
+use Rattle.std.proofs.Common.{◌≡◌, ◌≢◌, ℕ, zero, suc, ◌+◌, ◌≤◌, ◌==◌, ◌||◌, inl, inr, Bool, true, false, List, [], ◌∷◌, ◌++◌, length, map, take, drop, filter, count_by, nat_le, AllPairs, Contains, Some, slice_get, sym, ap, ap₂, subst, ◌∙◌, arith, take-append-drop}
+use Rattle.std.proofs.lemmas.Bool.{cases_Bool, true≢false}
 use Rattle.std.proofs.lemmas.List.{length-take, drop-append-le}
 use Rattle.std.proofs.Math.Seq.{drop-length}
 use Rattle.std.proofs.lemmas.List.Elements.{Contains-append_right, Contains-append_cases}
@@ -19,8 +19,7 @@ use Rattle.topk_theory.specs.Transcript.{Agrees, seen_objects}
 use Rattle.topk_theory.proofs.AgreementLists.{contains_here, contains_there, distinct_tail, distinct_fits}
 use Rattle.topk_theory.proofs.AgreementNames.{has, has_contains, has_not}
 use Rattle.topk_theory.proofs.Agreement.{objects_of_distinct, objects_of_count, seen_distinct, seen_objects_old, seen_objects_new, seen_objects_random}
-use Rattle.machine_base.specs.Asking.{AreKnown}
-use Rattle.machine_base.specs.Board.{with_new, OnBoard}
+use Rattle.machine_base.specs.Board.{OnBoard}
 use Rattle.machine_base.proofs.BoardCounts.{IsBoardOf, board_of, board_counts, board_first}
 use Rattle.machine_base.proofs.BoardSteps.{board_after_row, board_after_grade, board_after_put, place_filled}
 use Rattle.best_k.specs.Held.{item_with}

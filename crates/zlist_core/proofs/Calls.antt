@@ -1,5 +1,5 @@
 -- What the calls of a machine need, and what they leave.
-use Rattle.std.proofs.Common.{◌≡◌, ℕ, ◌+◌, ◌<◌, ◌≤◌, min, Bool, true, List, [], length, drop, Contains, refl, sym, ap, subst, ◌∙◌, arith}
+use Rattle.std.proofs.Common.{◌≡◌, ℕ, min, Bool, List, [], length, Contains, sym, ap, subst, ◌∙◌, arith}
 use Rattle.ranked_list.specs.declared.row.Row.{Row}
 use Rattle.ranked_list.specs.declared.need.Need.TheVariants as needs
 use Rattle.monotone_fn.specs.declared.costs.Costs.{Costs}
@@ -10,7 +10,6 @@ use Rattle.topk_theory.specs.Order.{AreDistinct}
 use Rattle.topk_theory.proofs.AgreementLists.{contains_nil}
 use Rattle.topk_theory.proofs.AgreementNames.{each_once_within}
 use Rattle.topk_theory.specs.declared.access.Access.TheVariants.{Sorted, Random}
-use Rattle.topk_theory.specs.Transcript.{seen_objects}
 use Rattle.best_k.specs.Held.{Held}
 use Rattle.machine_base.specs.Machine.{MachineState, IsBegun, MayBeNextRow, MayBeNextGrade, HasRoomFor, Takes, row_access, grade_access}
 use Rattle.machine_base.specs.declared.asking.Ask.{Ask}
@@ -20,7 +19,7 @@ use Rattle.machine_base.proofs.Asks.{asked_for_once}
 use Rattle.machine_base.proofs.Depths.{first_reached}
 use Rattle.machine_base.proofs.Held.{some_before, carried, takes}
 use Rattle.machine_base.proofs.Reserve.{row_can}
-use Rattle.zlist_theory.specs.Restricted.{HasOne, taz_stop}
+use Rattle.zlist_theory.specs.Restricted.{taz_stop}
 use Rattle.zlist_core.specs.declared.stage.Stage.{Stage}
 use Rattle.zlist_core.specs.declared.stage.Stage.TheVariants as stages
 use Rattle.zlist_core.specs.Lists.{reads, IsNextList}

@@ -1,15 +1,14 @@
 -- The way of a machine through the run of a table.
-use Rattle.std.proofs.Common.{◌≡◌, ◌≢◌, ℕ, zero, suc, ◌+◌, ◌-◌, ◌<◌, ◌≤◌, inl, inr, Bool, true, false, List, [], ◌∷◌, ◌++◌, length, map, take, drop, Contains, Some, get_or, refl, sym, ap, ap₂, subst, ◌∙◌, arith, append-nil, append_assoc, take-append-drop}
+use Rattle.std.proofs.Common.{◌≡◌, ℕ, zero, suc, ◌+◌, ◌-◌, ◌<◌, ◌≤◌, Bool, true, false, List, [], ◌∷◌, ◌++◌, length, map, take, drop, Some, get_or, sym, ap, ap₂, subst, ◌∙◌, arith, append-nil, append_assoc, take-append-drop}
 use Rattle.std.specs.List.{flat_map}
 use Rattle.std.proofs.lemmas.List.{map-append}
 use Rattle.std.proofs.lemmas.Grind.{flat_map-append}
 use Rattle.ranked_list.specs.declared.row.Row.{Row}
-use Rattle.ranked_list.specs.declared.need.Need.{Need}
 use Rattle.ranked_list.specs.declared.need.Need.TheVariants as needs
 use Rattle.ranked_list.specs.Table.{IsTable}
 use Rattle.ranked_list.proofs.RankLaws.{no_row}
 use Rattle.topk_theory.specs.declared.access.Access.{Access}
-use Rattle.topk_theory.specs.declared.access.Access.TheVariants.{Sorted, Random}
+use Rattle.topk_theory.specs.declared.access.Access.TheVariants.{Sorted}
 use Rattle.topk_theory.specs.Transcript.{Agrees, Gives, whole, list_at, seen_objects, depth_of}
 use Rattle.topk_theory.specs.Threshold.{IsAsked, row_at}
 use Rattle.topk_theory.specs.Combined.{unknown_lists, missing_grades}

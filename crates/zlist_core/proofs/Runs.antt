@@ -1,8 +1,7 @@
 -- A machine that keeps what it keeps makes its run, and what it answers.
-use Rattle.std.proofs.Common.{◌≡◌, ◌≢◌, ℕ, ◌+◌, ◌-◌, ◌<◌, ◌≤◌, Bool, true, List, [], ◌∷◌, ◌++◌, length, drop, Contains, Some, refl, sym, ap, subst, ◌∙◌, arith}
+use Rattle.std.proofs.Common.{◌≡◌, ℕ, ◌+◌, ◌-◌, Bool, List, ◌++◌, Contains, refl, sym, ap, subst, ◌∙◌, arith}
 use Rattle.ranked_list.specs.declared.row.Row.{Row}
 use Rattle.ranked_list.specs.declared.item.Item.{Item}
-use Rattle.ranked_list.specs.declared.need.Need.{Need}
 use Rattle.ranked_list.specs.declared.need.Need.TheVariants as needs
 use Rattle.ranked_list.specs.Table.{grade_in}
 use Rattle.monotone_fn.specs.Value.{value}
@@ -24,7 +23,7 @@ use Rattle.machine_base.specs.declared.asking.Ask.{Ask}
 use Rattle.machine_base.specs.Asking.{IsAsking}
 use Rattle.machine_base.proofs.Asks.{asks_begin, ask_served}
 use Rattle.machine_base.proofs.Makes.{makes_run, at_end, answer_by}
-use Rattle.zlist_theory.specs.Restricted.{HasOne, taz_depth, taz_run, taz_run_to, taz_answer, taz_objects, restricted_run, restricted_answer}
+use Rattle.zlist_theory.specs.Restricted.{taz_depth, taz_run, taz_answer, taz_objects, restricted_run, restricted_answer}
 use Rattle.zlist_theory.proofs.Optimal.{taz_near_best}
 use Rattle.zlist_theory.proofs.Runs.{taz_run_sees, answer_there}
 use Rattle.zlist_theory.proofs.Top.{taz_answer_top}

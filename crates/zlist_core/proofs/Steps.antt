@@ -1,6 +1,6 @@
 -- What a machine keeps after one more access.
-use Rattle.std.proofs.Common.{◌≡◌, ◌≢◌, ℕ, suc, ◌+◌, ◌-◌, ◌<◌, ◌≤◌, inl, inr, Bool, true, false, List, [], ◌∷◌, ◌++◌, length, take, drop, Contains, Option, Some, None, refl, sym, ap, subst, ◌∙◌, arith}
-use Rattle.std.proofs.lemmas.Bool.{cases_Bool, true≢false}
+use Rattle.std.proofs.Common.{◌≡◌, ◌≢◌, ℕ, ◌+◌, ◌-◌, ◌≤◌, Bool, true, false, List, [], ◌∷◌, ◌++◌, length, take, drop, Contains, Some, None, refl, sym, ap, subst, ◌∙◌, arith}
+use Rattle.std.proofs.lemmas.Bool.{true≢false}
 use Rattle.std.proofs.lemmas.List.{take-append-le, length-append, get_or_default}
 use Rattle.std.proofs.Math.Seq.{take-length}
 use Rattle.ranked_list.specs.declared.row.Row.{Row}
@@ -12,7 +12,6 @@ use Rattle.topk_theory.specs.declared.access.Access.TheVariants.{Sorted, Random}
 use Rattle.topk_theory.specs.Transcript.{Agrees, seen_objects}
 use Rattle.topk_theory.specs.Combined.{unknown_lists}
 use Rattle.topk_theory.specs.Consistent.{SomeAgrees}
-use Rattle.topk_theory.specs.Threshold.{IsAsked}
 use Rattle.topk_theory.proofs.AgreementLists.{all_from_members, member_of_all}
 use Rattle.topk_theory.proofs.Agreement.{agrees_front, seen_objects_random, seen_distinct}
 use Rattle.best_k.specs.Held.{Held}
@@ -20,18 +19,17 @@ use Rattle.machine_base.specs.Base.{IsHeld, MayFollow}
 use Rattle.machine_base.specs.Depths.{IsReached}
 use Rattle.machine_base.specs.Board.{OnBoard}
 use Rattle.machine_base.specs.declared.asking.Ask.{Ask}
-use Rattle.machine_base.specs.Asking.{all_missing, ask_from, AreKnown, AreListed, IsAsking, AreAsked, AsksNext, LeavesAsks}
+use Rattle.machine_base.specs.Asking.{ask_from, AreKnown, AreListed, IsAsking, AreAsked, AsksNext, LeavesAsks}
 use Rattle.machine_base.proofs.Held.{held_more, held_asked}
 use Rattle.machine_base.proofs.Asks.{asks_next, asks_more, leaves_asks, leaves_more}
 use Rattle.zlist_theory.specs.Restricted.{HasOne, taz_stop, taz_run_to}
 use Rattle.zlist_theory.proofs.Lists.{PassesOver}
 use Rattle.zlist_theory.proofs.Runs.{known_stays}
 use Rattle.zlist_theory.proofs.Seen.{seen_grows}
-use Rattle.zlist_core.specs.declared.stage.Stage.{Stage}
 use Rattle.zlist_core.specs.declared.stage.Stage.TheVariants as stages
 use Rattle.zlist_core.specs.Lists.{reads, NoneBetween, IsNextList}
 use Rattle.zlist_core.specs.Course.{items_with, stops_by}
-use Rattle.zlist_core.specs.OnTable.{OnRow, OnAsks, OnTable}
+use Rattle.zlist_core.specs.OnTable.{OnRow, OnAsks}
 use Rattle.zlist_core.specs.Kept.{AreWhole, IsFor, IsTazKept, IsRowKept, IsOverKept}
 use Rattle.zlist_core.proofs.Boards.{row_board, grade_board, new_board, none_waits, few_items, stop_shown}
 use Rattle.zlist_core.proofs.Path.{IsPosedOn, list_made, lists_passed, asks_left, next_depth, last_depth}

@@ -12,7 +12,7 @@ use Rattle.machine_base.specs.Asking.{ask_from, AreKnown, IsAsking, AsksNext}
 use Rattle.zlist_theory.specs.Restricted.{HasOne}
 use Rattle.zlist_core.specs.declared.stage.Stage.{Stage}
 use Rattle.zlist_core.specs.declared.stage.Stage.TheVariants as stages
-use Rattle.zlist_core.specs.Lists.{reads, NoneBetween}
+use Rattle.zlist_core.specs.Lists.{reads}
 use Rattle.zlist_core.specs.OnTable.{OnRow, OnLeft, OnTable}
 
 -- the first so many seen objects have all their grades

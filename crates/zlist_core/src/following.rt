@@ -1,6 +1,5 @@
 //! What follows an access that is told.
 
-ghost use Rattle.best_k.specs.Held.{Held};
 ghost use Rattle.zlist_core.specs.Kept.{Keeps, IsRowTold, IsRowOver};
 
 use super::scoring::{may_stop, put_new};

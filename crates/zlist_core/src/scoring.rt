@@ -2,7 +2,6 @@
 
 ghost use Rattle.std.specs.Prelude.{◌≡◌, ◌≤◌, length, drop};
 ghost use Rattle.monotone_fn.specs.Value.{value};
-ghost use Rattle.best_k.specs.Held.{Held};
 ghost use Rattle.topk_theory.specs.Bounds.{threshold};
 ghost use Rattle.topk_theory.specs.Transcript.{seen_objects};
 ghost use Rattle.machine_base.specs.Base.{Holds};

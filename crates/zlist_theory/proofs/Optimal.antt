@@ -1,6 +1,6 @@
 -- The algorithm stops by the depth of a tame transcript that reads no list outside Z and fixes an answer, by k, or where all objects are
 -- seen or answered.
-use Rattle.std.proofs.Common.{◌≡◌, ◌≢◌, ℕ, suc, ◌+◌, ◌-◌, ◌<◌, ◌≤◌, inl, inr, Bool, true, false, ◌||◌, cond, max, List, [], ◌++◌, length, map, take, drop, filter, AllPairs, Contains, slice_index_or, sym, ap, subst, ◌∙◌, arith, count_by, nat_le, refl, length-append, length-take, take-append-drop, slice_index}
+use Rattle.std.proofs.Common.{◌≡◌, ◌≢◌, ℕ, ◌+◌, ◌-◌, ◌<◌, ◌≤◌, inl, inr, Bool, true, false, ◌||◌, cond, max, List, [], ◌++◌, length, map, take, drop, filter, AllPairs, Contains, sym, ap, subst, ◌∙◌, arith, count_by, nat_le, refl, length-append, length-take, take-append-drop, slice_index}
 use Rattle.std.proofs.lemmas.Bool.{cases_lt, le-leb, true≢false}
 use Rattle.std.proofs.lemmas.List.{length-take-le, map-append, get_or-map, get_or_past}
 use Rattle.std.proofs.lemmas.List.Sums.{length-filter}
@@ -9,9 +9,9 @@ use Rattle.std.proofs.lemmas.List.Elements.{Contains-append_left, Contains-appen
 use Rattle.ranked_list.specs.declared.row.Row.{Row}
 use Rattle.ranked_list.specs.Table.{IsRanked, IsTable, objects, grade_in, place_in, top_grade}
 use Rattle.topk_theory.specs.declared.access.Access.{Access}
-use Rattle.monotone_fn.specs.Value.{IsMonotone, NoSmaller}
+use Rattle.monotone_fn.specs.Value.{IsMonotone}
 use Rattle.topk_theory.specs.Aggregate.{objects_of, aggregate}
-use Rattle.topk_theory.specs.Transcript.{Agrees, IsTame, last_grade, list_at, list_numbers, sorted_rows, seen_objects, depth, depth_of, bottom_of}
+use Rattle.topk_theory.specs.Transcript.{Agrees, IsTame, last_grade, list_at, list_numbers, seen_objects, depth, depth_of, bottom_of}
 use Rattle.topk_theory.specs.Bounds.{low, threshold}
 use Rattle.topk_theory.specs.Adversary.{BoundsPart}
 use Rattle.topk_theory.specs.Threshold.{IsAsked, row_at, stands}

@@ -1,5 +1,5 @@
 -- Where an object that a row gives first is asked for: in the lists that can't be read in order, and in those where it stands lower.
-use Rattle.std.proofs.Common.{◌≡◌, inl, inr, ℕ, suc, ◌<◌, ◌≤◌, Bool, true, false, not, ◌&&◌, cond, List, [], ◌∷◌, ◌++◌, length, take, filter, nat_lt, Contains, Option, Some, None, is_none, refl, sym, ap, subst, ◌∙◌, arith, eq-eqb}
+use Rattle.std.proofs.Common.{◌≡◌, inl, inr, ℕ, suc, ◌<◌, ◌≤◌, Bool, true, false, not, ◌&&◌, cond, List, ◌++◌, length, take, filter, nat_lt, Contains, Option, Some, None, is_none, refl, sym, ap, subst, ◌∙◌, arith, eq-eqb}
 use Rattle.std.proofs.lemmas.Bool.{ltb-true, ltb-false}
 use Rattle.std.proofs.lemmas.List.Elements.{Contains-append_cases}
 use Rattle.ranked_list.specs.declared.row.Row.{Row}
@@ -18,7 +18,7 @@ use Rattle.topk_theory.proofs.ThresholdLists.{filter_same}
 use Rattle.topk_theory.proofs.ThresholdRun.{contains_filter_map}
 use Rattle.topk_theory.proofs.Unseen.{unseen_unknown}
 use Rattle.fa_theory.proofs.Common.{place_of_front, front_of_place, read_known}
-use Rattle.zlist_theory.specs.Restricted.{lists_in, read_at, row_of_first, must_ask, taz_run_to}
+use Rattle.zlist_theory.specs.Restricted.{row_of_first, must_ask, taz_run_to}
 use Rattle.zlist_theory.proofs.Reading.{IsRead, no_rows, row_read, run_read, depth_over}
 use Rattle.zlist_theory.proofs.Runs.{row_sorted, run_tame}
 

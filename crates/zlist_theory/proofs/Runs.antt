@@ -1,5 +1,5 @@
 -- The run of the algorithm: it makes no wild guess, knows all grades of what it has seen, and is as deep and as long as its depth says.
-use Rattle.std.proofs.Common.{◌≡◌, ◌≢◌, ◌↔◌, inl, inr, ℕ, zero, suc, ◌+◌, ◌*◌, ◌<◌, ◌≤◌, Bool, true, false, List, [], ◌∷◌, ◌++◌, length, map, All, Contains, Option, Some, None, is_none, refl, sym, ap, subst, ◌∙◌, arith, length-append, append-nil}
+use Rattle.std.proofs.Common.{◌≡◌, ◌≢◌, ◌↔◌, inl, inr, ℕ, zero, suc, ◌+◌, ◌*◌, ◌≤◌, Bool, true, false, List, [], ◌∷◌, ◌++◌, length, map, All, Contains, Option, is_none, refl, sym, ap, subst, ◌∙◌, arith, length-append}
 use Rattle.std.specs.List.{flat_map}
 use Rattle.std.proofs.lemmas.Bool.{cases_Bool, true≢false}
 use Rattle.std.proofs.lemmas.Grind.{flat_map-append}
@@ -10,8 +10,6 @@ use Rattle.ranked_list.specs.Table.{IsTable, grade_in}
 use Rattle.ranked_list.proofs.OptionLaws.{option_cases}
 use Rattle.topk_theory.specs.declared.access.Access.{Access}
 use Rattle.topk_theory.specs.declared.access.Access.TheVariants.{Sorted, Random}
-use Rattle.topk_theory.specs.Aggregate.{objects_of}
-use Rattle.topk_theory.specs.Order.{IsFirstK}
 use Rattle.topk_theory.specs.Transcript.{Agrees, IsTame, list_at, list_numbers, sorted_rows, seen_objects, depth, depth_of}
 use Rattle.topk_theory.specs.Bounds.{known_grade}
 use Rattle.topk_theory.specs.Threshold.{IsAsked, row_at, scored, item_objects}
@@ -19,7 +17,7 @@ use Rattle.topk_theory.specs.Combined.{unknown_lists, missing_grades}
 use Rattle.topk_theory.proofs.AgreementLists.{contains_nil, contains_here, contains_there, contains_map_from, all_from_members, member_of_all}
 use Rattle.topk_theory.proofs.AgreementNames.{each_once_within}
 use Rattle.topk_theory.proofs.Agreement.{known_grade_kept, seen_count}
-use Rattle.topk_theory.proofs.CombinedRun.{Asks, asks_tame}
+use Rattle.topk_theory.proofs.CombinedRun.{asks_tame}
 use Rattle.topk_theory.proofs.ThresholdLists.{length-map, filter_fits}
 use Rattle.topk_theory.proofs.ThresholdRun.{tame_append}
 use Rattle.topk_theory.proofs.ThresholdRun.{run_tame as ta_tame}
@@ -27,9 +25,9 @@ use Rattle.topk_theory.proofs.ThresholdTop.{scored_member}
 use Rattle.optimal_law.proofs.Depths.{depth_above, depth_below}
 use Rattle.fa_theory.proofs.Common.{each_known, none_unknown}
 use Rattle.fa_theory.proofs.Runs.{asks_know, asks_see_none, asks_long}
-use Rattle.zlist_theory.specs.Restricted.{HasOne, lists_in, taz_objects, read_at, row_of_first, with_grades, taz_run_to, taz_run, taz_depth, taz_answer, ReadsIn}
+use Rattle.zlist_theory.specs.Restricted.{HasOne, lists_in, taz_objects, read_at, row_of_first, taz_run_to, taz_run, taz_depth, taz_answer, ReadsIn}
 use Rattle.zlist_theory.proofs.Least.{taz_depth_is_least}
-use Rattle.zlist_theory.proofs.Reading.{IsRead, no_rows, run_read, row_read, grades_ask}
+use Rattle.zlist_theory.proofs.Reading.{IsRead, no_rows, run_read, grades_ask}
 use Rattle.zlist_theory.proofs.Seen.{seen_are_read, seen_grows}
 use Rattle.zlist_theory.proofs.Top.{taz_first}
 

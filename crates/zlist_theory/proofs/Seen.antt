@@ -1,8 +1,8 @@
 -- Which objects a transcript has seen, by their places in the lists and by how deep these were read.
-use Rattle.std.proofs.Common.{◌≡◌, ◌↔◌, inl, inr, ℕ, zero, suc, ◌<◌, Bool, true, false, cond, List, [], ◌∷◌, ◌++◌, length, take, filter_map, Contains, Some, None, refl, sym, ap, subst, ◌∙◌, arith, eq-eqb, append-nil, append_assoc}
-use Rattle.std.proofs.lemmas.Bool.{cases_Bool, true≢false}
+use Rattle.std.proofs.Common.{◌≡◌, ◌↔◌, inl, inr, ℕ, ◌<◌, Bool, cond, List, [], ◌∷◌, ◌++◌, length, take, filter_map, Contains, Some, None, refl, sym, ap, subst, ◌∙◌, arith, eq-eqb, append-nil, append_assoc}
+use Rattle.std.proofs.lemmas.Bool.{cases_Bool}
 use Rattle.ranked_list.specs.declared.row.Row.{Row}
-use Rattle.ranked_list.specs.Table.{IsTable, objects, place_in}
+use Rattle.ranked_list.specs.Table.{objects, place_in}
 use Rattle.topk_theory.specs.declared.access.Access.{Access}
 use Rattle.topk_theory.specs.declared.access.Access.TheVariants.{Sorted, Random}
 use Rattle.topk_theory.specs.Aggregate.{objects_of}
@@ -16,7 +16,7 @@ use Rattle.topk_theory.proofs.ThresholdLists.{contains_filter, contains_from_fil
 use Rattle.topk_theory.proofs.ThresholdRun.{access_from_seen, contains_filter_map}
 use Rattle.fa_theory.proofs.Common.{place_of_front, front_of_place}
 use Rattle.zlist_theory.specs.Restricted.{part_in, taz_objects}
-use Rattle.zlist_theory.proofs.Lists.{StandsIn, stands_by, stands_at}
+use Rattle.zlist_theory.proofs.Lists.{stands_by, stands_at}
 use Rattle.zlist_theory.proofs.Reading.{IsRead}
 
 -- a seen object stands in some list among the rows that were read

@@ -1,6 +1,6 @@
 -- The answer of the algorithm is a top k of its table.
-use Rattle.std.proofs.Common.{◌≡◌, ◌≢◌, ℕ, suc, ◌<◌, ◌≤◌, inl, inr, Bool, true, false, cond, List, [], ◌∷◌, length, map, min, filter, count_by, nat_le, nat_lt, All, AllPairs, Contains, slice_index_or, refl, sym, ap, subst, ◌∙◌, arith, eqb-true}
-use Rattle.std.proofs.lemmas.Bool.{cases_Bool, cases_lt, true≢false, le-leb, leb-true, ltb-false}
+use Rattle.std.proofs.Common.{◌≡◌, ◌≢◌, ℕ, ◌<◌, ◌≤◌, inl, inr, Bool, true, false, cond, List, [], ◌∷◌, length, map, min, filter, count_by, nat_le, AllPairs, Contains, slice_index_or, refl, sym, ap, subst, ◌∙◌, arith, eqb-true}
+use Rattle.std.proofs.lemmas.Bool.{cases_Bool, cases_lt, true≢false, le-leb, leb-true}
 use Rattle.std.proofs.lemmas.List.Sums.{length-filter}
 use Rattle.std.proofs.lemmas.List.Kept.{AllPairs-cons, AllPairs-filter}
 use Rattle.ranked_list.specs.declared.row.Row.{Row}
@@ -18,10 +18,10 @@ use Rattle.topk_theory.proofs.Agreement.{objects_of_distinct, objects_of_count}
 use Rattle.topk_theory.proofs.BoundsLaws.{Falls-from_ranked, grade_in_le, zip_numbers, grades_by_number}
 use Rattle.topk_theory.proofs.FirstK.{first_k-is}
 use Rattle.topk_theory.proofs.OrderLaws.{IsBefore-irreflexive}
-use Rattle.topk_theory.proofs.ThresholdDepth.{grade_below, stands_within}
+use Rattle.topk_theory.proofs.ThresholdDepth.{grade_below}
 use Rattle.topk_theory.proofs.ThresholdLists.{contains_filter, contains_from_filter, count_all, filter_here, filter_gone, filter_fits, length-map}
 use Rattle.topk_theory.proofs.ThresholdTop.{objects_from_distinct, scored_distinct, scored_member}
-use Rattle.zlist_theory.specs.Restricted.{HasOne, part_in, taz_objects, taz_bottom, taz_threshold, has_enough, has_all, taz_stop, taz_depth, taz_answer}
+use Rattle.zlist_theory.specs.Restricted.{HasOne, part_in, taz_objects, taz_bottom, taz_threshold, taz_stop, taz_depth, taz_answer}
 use Rattle.zlist_theory.proofs.Least.{taz_depth_is_least, why_stops}
 use Rattle.zlist_theory.proofs.Lists.{stands_by}
 

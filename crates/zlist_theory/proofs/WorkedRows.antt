@@ -1,5 +1,5 @@
 -- The definitions on small tables, with figures that were worked out by hand. What `refl` proves holds by computing alone.
-use Rattle.std.proofs.Common.{refl, ◌≡◌, ℕ, zero, suc, ◌*◌, Bool, true, false, min, sum, slice_index, List, [], ◌∷◌}
+use Rattle.std.proofs.Common.{refl, ◌≡◌, ℕ, zero, suc, ◌*◌, Bool, true, false, sum, slice_index, List, [], ◌∷◌}
 use Rattle.ranked_list.specs.declared.row.Row.{Row}
 use Rattle.ranked_list.specs.declared.item.Item.{Item}
 use Rattle.topk_theory.specs.declared.access.Access.TheVariants.{Sorted, Random}

@@ -4,7 +4,6 @@ ghost use Rattle.std.specs.Prelude.{◌≡◌, ◌≤◌, ◌*◌, ◌↔◌, �
 ghost use Rattle.ranked_list.specs.declared.row.Row.{Row};
 ghost use Rattle.ranked_list.specs.Table.{IsTable};
 ghost use Rattle.monotone_fn.specs.Value.{IsMonotone};
-ghost use Rattle.topk_theory.specs.declared.access.Access.{Access};
 ghost use Rattle.topk_theory.specs.Aggregate.{IsTop};
 ghost use Rattle.topk_theory.specs.Transcript.{Agrees, IsTame, list_numbers, seen_objects, depth};
 ghost use Rattle.topk_theory.specs.Bounds.{threshold};

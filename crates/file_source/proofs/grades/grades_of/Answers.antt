@@ -1,4 +1,3 @@
-use Rattle.std.proofs.Common.{arith}
 use Rattle.std.proofs.lemmas.Option.{slice_get-get_or}
 use Rattle.file_source.proofs.RecordLaws.{grade_next}
 use Rattle.file_source.proofs.grades.grades_of.Goals as goal

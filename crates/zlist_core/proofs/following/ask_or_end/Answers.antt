@@ -1,5 +1,5 @@
 use Rattle.std.proofs.Common.{sym, ◌∙◌}
-use Rattle.zlist_core.proofs.Steps.{IsDepth, end_kept, over_few, depth_over, next_depth_kept}
+use Rattle.zlist_core.proofs.Steps.{end_kept, over_few, depth_over, next_depth_kept}
 use Rattle.zlist_core.proofs.following.ask_or_end.Goals as goal
 
 pub put_new-requires-clause-few : goal.put_new-requires-clause-few

@@ -1,4 +1,4 @@
-use Rattle.std.proofs.Common.{◌≡◌, ◌∙◌, None, Contains, ap, sym, subst}
+use Rattle.std.proofs.Common.{◌∙◌, None, Contains, ap, sym, subst}
 use Rattle.ranked_list.proofs.OptionLaws.{none_unless_some}
 use Rattle.source_api.specs.Told.{first_grade}
 use Rattle.file_source.specs.Filed.{Filed}

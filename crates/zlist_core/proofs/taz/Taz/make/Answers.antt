@@ -1,4 +1,4 @@
-use Rattle.std.proofs.Common.{length, ◌∙◌, arith, subst, sym, ap}
+use Rattle.std.proofs.Common.{◌∙◌, subst, sym}
 use Rattle.zlist_core.specs.declared.stage.Stage.TheVariants as stages
 use Rattle.zlist_core.specs.Kept.{Stands}
 use Rattle.zlist_core.proofs.Calls.{stands_start}
