@@ -1,4 +1,5 @@
 -- The words of the contracts.
+pub mod Calls
 pub mod Faults
 pub mod InMemory
 pub mod LinksInMemory
