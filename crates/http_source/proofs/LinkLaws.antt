@@ -1,14 +1,15 @@
 -- What a call did with its link, whatever it answers then.
-use Rattle.std.proofs.Common.{◌≡◌, ℕ, List, [], Option, Some, None, Result, Ok, Err, sym, inr}
+use Rattle.std.proofs.Common.{◌≡◌, ℕ, List, [], ◌∷◌, Option, Some, None, Result, Ok, Err, sym, inr}
 use Rattle.std.specs.Prelude.{IfSome}
 use Rattle.std.specs.Io.KnownBytes.{Appends}
 use Rattle.std.proofs.lemmas.List.{append-nil}
+use Rattle.tk_io.specs.Calls.{HostPort, with_more}
 use Rattle.tk_io.specs.Links.{Closed}
 use Rattle.tk_io.specs.Whole.{TookFront}
 use Rattle.source_api.specs.declared.source.Trouble.{Trouble}
 use Rattle.source_api.specs.declared.source.FailKind.TheVariants.{Failed, Garbled, Memory}
 use Rattle.source_api.specs.declared.source.Trouble.TheVariants.{Fail, Moved}
-use Rattle.http_source.specs.Exchanges.{OneLink, OneLinkInPart, UsesLink, FailsWith, IsUnanswered}
+use Rattle.http_source.specs.Exchanges.{OneLink, OneLinkInPart, UsesLink, DialsOnce, FailsWith, IsUnanswered}
 use Rattle.http_source.specs.Asking.{IsNoFault}
 
 -- all of a request is a front of it
@@ -63,3 +64,20 @@ unanswered_handed A T (Fail Failed) none = tt
 unanswered_handed A T (Fail Garbled) none = none
 unanswered_handed A T (Fail Memory) none = tt
 unanswered_handed A T (Moved had now) none = none
+
+pub dials_handed : (A T : Type 0) (at : HostPort) (dialled dialled_now : Option (List HostPort)) (why : Trouble)
+    → DialsOnce {T = A} at dialled dialled_now (Err why) → DialsOnce {T = T} at dialled dialled_now (Err why)
+dials_handed A T at dialled dialled_now (Fail Failed) dials = dials
+dials_handed A T at dialled dialled_now (Fail Garbled) dials = dials
+dials_handed A T at dialled dialled_now (Fail Memory) dials = dials
+dials_handed A T at dialled dialled_now (Moved had now) dials = dials
+
+-- ---- what was dialled, whatever came of it
+
+pub dials_once : {T : Type 0} (at : HostPort) (dialled dialled_now : Option (List HostPort)) (result : Result T Trouble) → dialled_now ≡ with_more (at ∷ []) dialled
+    → DialsOnce at dialled dialled_now result
+dials_once at dialled dialled_now (Ok x) once = once
+dials_once at dialled dialled_now (Err (Fail Failed)) once = once
+dials_once at dialled dialled_now (Err (Fail Garbled)) once = once
+dials_once at dialled dialled_now (Err (Fail Memory)) once = inr once
+dials_once at dialled dialled_now (Err (Moved had now)) once = once

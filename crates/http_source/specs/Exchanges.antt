@@ -1,12 +1,14 @@
--- What a call does with its dial: which link it takes and gives back, what of its request that link took, and when it fails.
-use Rattle.std.specs.Prelude.{◌≡◌, ◌⊎◌, ℕ, List, [], ◌∷◌, Option, Some, None, IfSome, Result, Err, ⊤}
+-- What a call does with its dial: which host and port it dials, which link it takes and gives back, what of its request that link took, and when it fails.
+use Rattle.std.specs.Prelude.{◌≡◌, ◌⊎◌, ℕ, List, [], ◌∷◌, Option, Some, None, IfSome, Result, Err, ⊤, string_bytes}
 use Rattle.std.specs.Io.KnownBytes.{Appends}
+use Rattle.tk_io.specs.Calls.{HostPort, with_more}
 use Rattle.tk_io.specs.Faults.{Rose}
 use Rattle.tk_io.specs.Links.{Closed, ClosesOne}
 use Rattle.tk_io.specs.Whole.{TookFront}
 use Rattle.source_api.specs.declared.source.Trouble.{Trouble}
 use Rattle.source_api.specs.declared.source.FailKind.TheVariants.{Failed, Memory}
 use Rattle.source_api.specs.declared.source.Trouble.TheVariants.{Fail}
+use Rattle.wire.specs.declared.writing.Place.{Place}
 
 -- the bytes of the link to come, where the links are told and there is one
 abbrev pub next_bytes : Option (List (List ℕ)) → Option (List ℕ)
@@ -47,6 +49,15 @@ UsesLink request links links_now closed closed_now (Err (Fail Failed)) =
 UsesLink request links links_now closed closed_now (Err (Fail Memory)) =
     NoLink links links_now closed closed_now ⊎ OneLinkInPart request links links_now closed closed_now
 UsesLink request links links_now closed closed_now _ = OneLink request links links_now closed closed_now
+
+-- the host of a place, and its port there
+abbrev pub host_port : Place → HostPort
+host_port place = record { host = string_bytes place.host; port = place.port }
+
+-- a call dials this port of this host once, and no other, where the dial tells it; where memory is refused it may dial none
+abbrev pub DialsOnce : {T : Type 0} → HostPort → Option (List HostPort) → Option (List HostPort) → Result T Trouble → Type 0
+DialsOnce at dialled dialled_now (Err (Fail Memory)) = (dialled_now ≡ dialled) ⊎ (dialled_now ≡ with_more (at ∷ []) dialled)
+DialsOnce at dialled dialled_now _ = dialled_now ≡ with_more (at ∷ []) dialled
 
 -- a call fails exactly where its dial's count rose: the count rises where it fails, and stays where it doesn't
 abbrev pub FailsWith : {T : Type 0} → ℕ → ℕ → Result T Trouble → Type 0

@@ -2,6 +2,7 @@
 use Rattle.std.specs.Prelude.{ℕ, List, Option, Result, Ok, Err, refl}
 use Rattle.std.specs.Coded.{Coded, code_by, coded×, coded_ℕ, coded_list}
 use Rattle.std.specs.Global.{Vec}
+use Rattle.tk_io.specs.Calls.{HostPort}
 use Rattle.ranked_list.specs.declared.row.Row.{Row}
 use Rattle.source_api.specs.declared.counts.Counts.{Counts}
 use Rattle.source_api.specs.declared.source.Trouble.{Trouble}
@@ -35,6 +36,10 @@ served_code {D} c =
 -- the request for what stands under the list's path
 abbrev pub request_of : {D : Type 0} → Served D → List ℕ → List ℕ
 request_of s tail = asking_text s.host s.port s.path tail
+
+-- the host where the list is served, and its port there
+abbrev pub host_port_of : {D : Type 0} → Served D → HostPort
+host_port_of s = record { host = s.host; port = s.port }
 
 -- what the source has counted; its faults are those of its dial
 abbrev pub counts_with : ℕ → Counts → Counts

@@ -4,7 +4,7 @@ ghost use Rattle.std.specs.Prelude.{◌≡◌, ◌≤◌, [], Some, None, vec_le
 ghost use Rattle.source_api.specs.Counting.{MovedHasCause, IsNoMove};
 ghost use Rattle.wire.specs.Writing.{request_text};
 ghost use Rattle.http_source.specs.Requests.{size_tail, page_tail, grade_tail};
-ghost use Rattle.http_source.specs.Exchanges.{next_bytes, UsesLink, FailsWith, IsUnanswered};
+ghost use Rattle.http_source.specs.Exchanges.{next_bytes, host_port, UsesLink, DialsOnce, FailsWith, IsUnanswered};
 ghost use Rattle.http_source.specs.Answers.{AnswersSize, AnswersPage, AnswersGrade};
 
 use super::exchange::{ask, ask_made};
@@ -30,6 +30,7 @@ pub(crate) fn ask_size<D: Dial>(
     ensures kept { OnErr result (at_hand.new ≡ at_hand.old) }
     ensures cause { FailsWith (D.faults dial.old) (D.faults dial.new) result }
     ensures later { D.faults dial.old ≤ D.faults dial.new }
+    ensures dialled { DialsOnce (host_port place.now) (D.dialled dial.old) (D.dialled dial.new) result }
     ensures link { UsesLink (request_text place.now size_tail)
         (D.links dial.old) (D.links dial.new) (D.closed dial.old) (D.closed dial.new) result }
 {
@@ -55,6 +56,7 @@ pub(crate) fn ask_page<D: Dial>(
     ensures moved { IfErr result (MovedHasCause at_hand None) }
     ensures cause { FailsWith (D.faults dial.old) (D.faults dial.new) result }
     ensures later { D.faults dial.old ≤ D.faults dial.new }
+    ensures dialled { DialsOnce (host_port place.now) (D.dialled dial.old) (D.dialled dial.new) result }
     ensures link { UsesLink (request_text place.now (page_tail from count))
         (D.links dial.old) (D.links dial.new) (D.closed dial.old) (D.closed dial.new) result }
 {
@@ -78,6 +80,7 @@ pub(crate) fn ask_grade<D: Dial>(
     ensures moved { IfErr result (MovedHasCause at_hand None) }
     ensures cause { FailsWith (D.faults dial.old) (D.faults dial.new) result }
     ensures later { D.faults dial.old ≤ D.faults dial.new }
+    ensures dialled { DialsOnce (host_port place.now) (D.dialled dial.old) (D.dialled dial.new) result }
     ensures link { UsesLink (request_text place.now (grade_tail object))
         (D.links dial.old) (D.links dial.new) (D.closed dial.old) (D.closed dial.new) result }
 {

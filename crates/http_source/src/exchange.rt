@@ -6,7 +6,7 @@ ghost use Rattle.source_api.specs.Counting.{IsNoMove};
 ghost use Rattle.wire.specs.Responses.{AnswersResponse};
 ghost use Rattle.wire.specs.LinkTold.{Counts};
 ghost use Rattle.wire.specs.Writing.{request_text};
-ghost use Rattle.http_source.specs.Exchanges.{next_bytes, UsesLink, FailsWith, IsUnanswered};
+ghost use Rattle.http_source.specs.Exchanges.{next_bytes, host_port, UsesLink, DialsOnce, FailsWith, IsUnanswered};
 ghost use Rattle.http_source.specs.Asking.{TakesRequest, ok_body, body_in, AnswersBody};
 
 use super::Memory;
@@ -18,8 +18,8 @@ use wire::{Place, Reply, WireFault, a_reply_is_the_only_answer, read_response, w
 /// The status of a reply that has a body to be read.
 const OK: u16 = 200;
 
-/// Asks for what stands under the place's path and this tail, on one link of the dial, which is given
-/// back whatever comes. The answer is the body of a reply with status 200.
+/// Asks for what stands under the place's path and this tail, on one link to the place's host and port,
+/// which is given back whatever comes. The answer is the body of a reply with status 200.
 pub(crate) fn ask<D: Dial>(
     alloc: Global,
     dial: &mut D,
@@ -31,6 +31,7 @@ pub(crate) fn ask<D: Dial>(
     ensures unmoved { IfErr result IsNoMove }
     ensures cause { FailsWith (D.faults dial.old) (D.faults dial.new) result }
     ensures later { D.faults dial.old ≤ D.faults dial.new }
+    ensures dialled { DialsOnce (host_port place.now) (D.dialled dial.old) (D.dialled dial.new) result }
     ensures link { UsesLink (request_text place.now tail.now)
         (D.links dial.old) (D.links dial.new) (D.closed dial.old) (D.closed dial.new) result }
 {
@@ -55,6 +56,7 @@ pub(crate) fn ask_made<D: Dial>(
     ensures unmoved { IfErr result IsNoMove }
     ensures cause { FailsWith (D.faults dial.old) (D.faults dial.new) result }
     ensures later { D.faults dial.old ≤ D.faults dial.new }
+    ensures dialled { DialsOnce (host_port place.now) (D.dialled dial.old) (D.dialled dial.new) result }
     ensures link { (text : List ℕ) → IfOk tail (λ made. string_bytes made ≡ text)
         → UsesLink (request_text place.now text) (D.links dial.old) (D.links dial.new) (D.closed dial.old) (D.closed dial.new) result }
 {

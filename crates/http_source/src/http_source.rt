@@ -3,9 +3,9 @@
 ghost use Rattle.std.specs.Prelude.{◌≡◌, ◌≤◌, [], Some, None, vec_len, string_bytes, IfOk, IfErr, IfSome, OnOk, OnErr};
 ghost use Rattle.source_api.specs.Counting.{no_counts, troubled, NoneFell, TroubleHasCause, CountsAlone, MovedHasCause, IsNoMove, GaveNothing, GaveRows, GaveGrade, gave_rows, gave_grade};
 ghost use Rattle.http_source.specs.Requests.{size_tail, page_tail, grade_tail};
-ghost use Rattle.http_source.specs.Exchanges.{next_bytes, UsesLink, FailsWith, IsUnanswered};
+ghost use Rattle.http_source.specs.Exchanges.{next_bytes, UsesLink, DialsOnce, FailsWith, IsUnanswered};
 ghost use Rattle.http_source.specs.Answers.{AnswersSize, AnswersPage, AnswersGrade};
-ghost use Rattle.http_source.specs.Served.{request_of, counts_with, size_counted, page_counted, grade_counted};
+ghost use Rattle.http_source.specs.Served.{request_of, host_port_of, counts_with, size_counted, page_counted, grade_counted};
 
 use super::Memory;
 use super::asking::{ask_grade, ask_page, ask_size};
@@ -16,8 +16,8 @@ use std::marker::Model;
 use tk_io::Dial;
 use wire::Place;
 
-/// A list that is served over HTTP at a place: each call is one request on one link of the dial, which
-/// is given back.
+/// A list that is served over HTTP at a place: each call is one request on one link to the place's host
+/// and port, which is given back. No other host or port is dialled.
 ///
 /// Contracts see it as the record of its dial, of the host, the port and the path of its place, of the
 /// version at hand, and of what it has counted. Its count of faults is that of its dial: a call is
@@ -140,6 +140,7 @@ impl<D: Dial + Send + Drop> Source for HttpSource<D> {
         ensures answers { IfSome (next_bytes (D.links self.old.dial)) (λ bytes. AnswersSize bytes self.new.version result) }
         ensures unlinked { D.links self.old.dial ≡ Some [] → IsUnanswered result }
         ensures failed { FailsWith (D.faults self.old.dial) (D.faults self.new.dial) result }
+        ensures dialled { DialsOnce (host_port_of self.old) (D.dialled self.old.dial) (D.dialled self.new.dial) result }
         ensures link { UsesLink (request_of self.old size_tail)
             (D.links self.old.dial) (D.links self.new.dial) (D.closed self.old.dial) (D.closed self.new.dial) result }
         ensures after { self.new ≡ record self.old {
@@ -165,6 +166,7 @@ impl<D: Dial + Send + Drop> Source for HttpSource<D> {
         ensures answers { IfSome (next_bytes (D.links self.old.dial)) (λ bytes. AnswersPage bytes self.old.version count result) }
         ensures unlinked { D.links self.old.dial ≡ Some [] → IsUnanswered result }
         ensures failed { FailsWith (D.faults self.old.dial) (D.faults self.new.dial) result }
+        ensures dialled { DialsOnce (host_port_of self.old) (D.dialled self.old.dial) (D.dialled self.new.dial) result }
         ensures link { UsesLink (request_of self.old (page_tail from count))
             (D.links self.old.dial) (D.links self.new.dial) (D.closed self.old.dial) (D.closed self.new.dial) result }
         ensures after { self.new ≡ record self.old { dial = self.new.dial; counted = page_counted result self.old.counted } }
@@ -194,6 +196,7 @@ impl<D: Dial + Send + Drop> Source for HttpSource<D> {
         ensures answers { IfSome (next_bytes (D.links self.old.dial)) (λ bytes. AnswersGrade bytes self.old.version result) }
         ensures unlinked { D.links self.old.dial ≡ Some [] → IsUnanswered result }
         ensures failed { FailsWith (D.faults self.old.dial) (D.faults self.new.dial) result }
+        ensures dialled { DialsOnce (host_port_of self.old) (D.dialled self.old.dial) (D.dialled self.new.dial) result }
         ensures link { UsesLink (request_of self.old (grade_tail object))
             (D.links self.old.dial) (D.links self.new.dial) (D.closed self.old.dial) (D.closed self.new.dial) result }
         ensures after { self.new ≡ record self.old { dial = self.new.dial; counted = grade_counted result self.old.counted } }

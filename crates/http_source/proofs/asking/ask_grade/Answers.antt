@@ -4,7 +4,7 @@ use Rattle.page_json.specs.Bodies.{IsGradeBody}
 use Rattle.http_source.specs.Requests.{grade_tail}
 use Rattle.http_source.specs.Answers.{GradeBy}
 use Rattle.http_source.proofs.SaidLaws.{grade_said_by, grade_refused, grade_moved, unmoved_cause}
-use Rattle.http_source.proofs.LinkLaws.{link_used, stays_calm, link_handed, fails_handed, unanswered_handed}
+use Rattle.http_source.proofs.LinkLaws.{link_used, stays_calm, link_handed, fails_handed, unanswered_handed, dials_once, dials_handed}
 use Rattle.http_source.proofs.asking.ask_grade.Goals as goal
 
 pub returns-in-Ok-clause-answers : goal.returns-in-Ok-clause-answers
@@ -21,6 +21,9 @@ returns-in-Ok-clause-moved g c = grade_moved (IsGradeBody c.deref.result.now) c.
 pub returns-in-Ok-clause-cause : goal.returns-in-Ok-clause-cause
 returns-in-Ok-clause-cause g c = stays_calm _ _ c.grade_said.result c.in-Ok.ensures.cause c.grade_said.ensures.calm
 
+pub returns-in-Ok-clause-dialled : goal.returns-in-Ok-clause-dialled
+returns-in-Ok-clause-dialled g c = dials_once _ _ _ c.grade_said.result c.in-Ok.ensures.dialled
+
 pub returns-in-Ok-clause-link : goal.returns-in-Ok-clause-link
 returns-in-Ok-clause-link g c = link_used _ _ _ _ _ c.grade_said.result (c.in-Ok.ensures.link (grade_tail c.args.object) c.grade_tail.ensures) c.grade_said.ensures.calm
 
@@ -35,6 +38,9 @@ returns-in-Err-clause-moved g c = unmoved_cause c.args.at_hand c.in-Err.trouble 
 
 pub returns-in-Err-clause-cause : goal.returns-in-Err-clause-cause
 returns-in-Err-clause-cause g c = fails_handed (Vec ℕ) (Option ℕ) _ _ c.in-Err.trouble c.in-Err.ensures.cause
+
+pub returns-in-Err-clause-dialled : goal.returns-in-Err-clause-dialled
+returns-in-Err-clause-dialled g c = dials_handed (Vec ℕ) (Option ℕ) _ _ _ c.in-Err.trouble c.in-Err.ensures.dialled
 
 pub returns-in-Err-clause-link : goal.returns-in-Err-clause-link
 returns-in-Err-clause-link g c = link_handed (Vec ℕ) (Option ℕ) _ _ _ _ _ c.in-Err.trouble (c.in-Err.ensures.link (grade_tail c.args.object) c.grade_tail.ensures)

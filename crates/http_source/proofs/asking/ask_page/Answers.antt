@@ -5,7 +5,7 @@ use Rattle.page_json.specs.Bodies.{IsPageBody}
 use Rattle.http_source.specs.Requests.{page_tail}
 use Rattle.http_source.specs.Answers.{PageBy}
 use Rattle.http_source.proofs.SaidLaws.{page_said_by, page_refused, page_moved, page_bound, unmoved_cause}
-use Rattle.http_source.proofs.LinkLaws.{link_used, stays_calm, link_handed, fails_handed, unanswered_handed}
+use Rattle.http_source.proofs.LinkLaws.{link_used, stays_calm, link_handed, fails_handed, unanswered_handed, dials_once, dials_handed}
 use Rattle.http_source.proofs.asking.ask_page.Goals as goal
 
 pub returns-in-Ok-clause-answers : goal.returns-in-Ok-clause-answers
@@ -25,6 +25,9 @@ returns-in-Ok-clause-moved g c = page_moved (IsPageBody c.deref.result.now) c.ar
 pub returns-in-Ok-clause-cause : goal.returns-in-Ok-clause-cause
 returns-in-Ok-clause-cause g c = stays_calm _ _ c.page_said.result c.in-Ok.ensures.cause c.page_said.ensures.calm
 
+pub returns-in-Ok-clause-dialled : goal.returns-in-Ok-clause-dialled
+returns-in-Ok-clause-dialled g c = dials_once _ _ _ c.page_said.result c.in-Ok.ensures.dialled
+
 pub returns-in-Ok-clause-link : goal.returns-in-Ok-clause-link
 returns-in-Ok-clause-link g c = link_used _ _ _ _ _ c.page_said.result (c.in-Ok.ensures.link (page_tail c.args.from c.args.count) c.page_tail.ensures) c.page_said.ensures.calm
 
@@ -39,6 +42,9 @@ returns-in-Err-clause-moved g c = unmoved_cause c.args.at_hand c.in-Err.trouble 
 
 pub returns-in-Err-clause-cause : goal.returns-in-Err-clause-cause
 returns-in-Err-clause-cause g c = fails_handed (Vec ℕ) (Vec Row) _ _ c.in-Err.trouble c.in-Err.ensures.cause
+
+pub returns-in-Err-clause-dialled : goal.returns-in-Err-clause-dialled
+returns-in-Err-clause-dialled g c = dials_handed (Vec ℕ) (Vec Row) _ _ _ c.in-Err.trouble c.in-Err.ensures.dialled
 
 pub returns-in-Err-clause-link : goal.returns-in-Err-clause-link
 returns-in-Err-clause-link g c = link_handed (Vec ℕ) (Vec Row) _ _ _ _ _ c.in-Err.trouble (c.in-Err.ensures.link (page_tail c.args.from c.args.count) c.page_tail.ensures)

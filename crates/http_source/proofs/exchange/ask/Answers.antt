@@ -1,6 +1,8 @@
-use Rattle.std.proofs.Common.{List, Option, subst}
+use Rattle.std.proofs.Common.{ℕ, List, Option, subst, ◌∙◌}
 use Rattle.tk_io.specs.Links.{Closed, ClosesOne}
+use Rattle.http_source.specs.Exchanges.{DialsOnce}
 use Rattle.http_source.proofs.AskLaws.{asked, not_none, body_unmoved, link_of, fails_of}
+use Rattle.http_source.proofs.LinkLaws.{dials_once}
 use Rattle.http_source.proofs.exchange.ask.Goals as goal
 
 pub returns-clause-answers : goal.returns-clause-answers
@@ -17,6 +19,11 @@ returns-clause-unmoved g c = rw c.body_in.ensures (body_unmoved c.talk-reply.res
 pub returns-clause-cause : goal.returns-clause-cause
 returns-clause-cause g c =
     rw c.body_in.ensures (fails_of _ _ _ _ c.talk-reply.result c.in-Ok.ensures.cause.stays c.hang_up.ensures.faults c.talk-reply.ensures.cause)
+
+pub returns-clause-dialled : goal.returns-clause-dialled
+returns-clause-dialled g c =
+    subst (λ (host : List ℕ). DialsOnce (record { host = host; port = c.args.place.now.port }) (g.D.Dial.dialled c.args.dial.now) (g.D.Dial.dialled c.hang_up.new.self) c.body_in.result)
+    c.as_str.ensures.value (dials_once _ _ _ c.body_in.result (c.hang_up.ensures.dialled ∙ c.in-Ok.ensures.dialled))
 
 pub returns-clause-link : goal.returns-clause-link
 returns-clause-link g c =

@@ -13,5 +13,8 @@ returns-in-Ok-clause-link g c = λ text made.
 pub returns-in-Err-clause-answers : goal.returns-in-Err-clause-answers
 returns-in-Err-clause-answers g c = memory_answers _
 
+pub returns-in-Err-clause-dialled : goal.returns-in-Err-clause-dialled
+returns-in-Err-clause-dialled g c = inl refl
+
 pub returns-in-Err-clause-link : goal.returns-in-Err-clause-link
 returns-in-Err-clause-link g c = λ text made. inl (record { stay = refl; kept = refl })

@@ -16,6 +16,11 @@ returns-clause-failed g c =
     rw (← c.self.view_is)
     (c.ask_grade-answer.ensures.cause)
 
+pub returns-clause-dialled : goal.returns-clause-dialled
+returns-clause-dialled g c =
+    rw (← c.self.view_is)
+    (c.ask_grade-answer.ensures.dialled)
+
 pub returns-clause-link : goal.returns-clause-link
 returns-clause-link g c =
     rw (← c.self.view_is)
