@@ -1,12 +1,13 @@
 -- Links that are served one after another.
-use Rattle.std.proofs.Common.{◌≡◌, Bool, true, Ok, ◌+◌, ℕ, List, [], ◌∷◌, ◌++◌, Option, Some, None, refl, sym, ap, subst, ◌∙◌, arith, append_assoc, length-append}
+use Rattle.std.proofs.Common.{◌≡◌, ◌≤◌, Bool, true, false, Ok, ◌+◌, ℕ, List, [], ◌∷◌, ◌++◌, Option, Some, None, refl, sym, ap, subst, ◌∙◌, inr, arith, append_assoc, length-append}
 use Rattle.std.proofs.lemmas.List.{append-nil}
 use Rattle.std.specs.Io.KnownBytes.{IsAtEnd}
-use Rattle.tk_io.specs.Links.{Closed, ClosesOne, GivesFirst, IsFresh}
+use Rattle.tk_io.specs.Calls.{PortCall, with_more}
+use Rattle.tk_io.specs.Links.{Closed, ClosesOne, GivesFirst, HasNone, IsFresh}
 use Rattle.source_node.specs.Connections.{Ends}
 use Rattle.source_node.specs.Serving.{Seen}
 use Rattle.source_node.specs.declared.node.ConnEnd.{ConnEnd}
-use Rattle.source_node.specs.ServingLinks.{PortAt, visit_of, ServesLink, ServesEach, ClosesAll, ServesLinks, ServesOne, ServesFirst, ServesNext, ServesNone}
+use Rattle.source_node.specs.ServingLinks.{PortAt, visit_of, ServesLink, ServesEach, ClosesAll, turns, ServesLinks, ServedAll, ServesOne, ServesFirst, ServesNext, ServesNone}
 
 -- a link more behind others
 each_more : (name : List ℕ) (version : Option ℕ) (links mid links_now : Option (List (List ℕ))) (source after source_now : Seen) (ones : List Closed) (one : Closed)
@@ -33,30 +34,54 @@ closes_none : (closed : Option (List Closed)) → ClosesAll closed closed []
 closes_none None = tt
 closes_none (Some closed) = sym (append-nil closed)
 
+calls_none : (calls : Option (List PortCall)) → calls ≡ with_more [] calls
+calls_none None = refl
+calls_none (Some calls) = ap Some (sym (append-nil calls))
+
+pub calls_then : (made more : List PortCall) (calls : Option (List PortCall)) → with_more more (with_more made calls) ≡ with_more (made ++ more) calls
+calls_then made more None = refl
+calls_then made more (Some calls) = ap Some (append_assoc calls made more)
+
+turns_more : (ones : List Closed) (one : Closed) → turns (ones ++ one ∷ []) ++ [] ≡ (turns ones ++ []) ++ PortCall.Gave ∷ PortCall.TookBack ∷ []
+turns_more [] one = refl
+turns_more (first ∷ ones) one = ap (λ calls. PortCall.Gave ∷ PortCall.TookBack ∷ calls) (turns_more ones one)
+
 -- before the first link
-pub none_served : (name : List ℕ) (version : Option ℕ) (port : PortAt) (source : Seen) → ServesLinks name version port port source source 0
-none_served name version port source = record { ones = []; number = refl; each = (refl, refl); closed = closes_none port.closed }
+pub none_served : (name : List ℕ) (version : Option ℕ) (port : PortAt) (source : Seen) → ServesLinks name version port port source source 0 []
+none_served name version port source =
+    record { ones = []; number = refl; each = (refl, refl); closed = closes_none port.closed; in_turn = calls_none port.calls }
 
 -- after one more
 pub one_more : (name : List ℕ) (version : Option ℕ) (before mid now : PortAt) (source after source_now : Seen) (count : ℕ)
-    → ServesLinks name version before mid source after count → ServesFirst name version mid now after source_now
-    → ServesLinks name version before now source source_now (count + 1)
+    → ServesLinks name version before mid source after count [] → ServesFirst name version mid now after source_now
+    → ServesLinks name version before now source source_now (count + 1) []
 one_more name version before mid now source after source_now count served next = record {
   ones = served.ones ++ next.one ∷ [];
   number = let e = served.number in let l = length-append served.ones (next.one ∷ []) in omega (arith, e, l);
   each = each_more name version before.links mid.links now.links source after source_now served.ones next.one served.each next.serves;
   closed = closes_more before.closed mid.closed now.closed served.ones next.one served.closed next.given_back;
+  in_turn =
+      next.in_turn
+      ∙ (ap (with_more (PortCall.Gave ∷ PortCall.TookBack ∷ [])) served.in_turn
+      ∙ (calls_then (turns served.ones ++ []) (PortCall.Gave ∷ PortCall.TookBack ∷ []) before.calls
+      ∙ ap (λ made. with_more made before.calls) (sym (turns_more served.ones next.one))));
 }
 
 -- where no more came
-pub none_more : (name : List ℕ) (version : Option ℕ) (before mid now : PortAt) (source after source_now : Seen) (count : ℕ)
-    → ServesLinks name version before mid source after count → ServesNone mid now after source_now → ServesLinks name version before now source source_now count
-none_more name version before mid now source after source_now count served none = record {
+pub none_more : (name : List ℕ) (version : Option ℕ) (before mid now : PortAt) (source after source_now : Seen) (count : ℕ) (call : PortCall)
+    → ServesLinks name version before mid source after count [] → ServesNone call mid now after source_now
+    → ServesLinks name version before now source source_now count (call ∷ [])
+none_more name version before mid now source after source_now count call served none = record {
   ones = served.ones;
   number = served.number;
   each = subst (λ l. ServesEach name version before.links l source source_now served.ones) (sym none.links)
       (subst (λ s. ServesEach name version before.links mid.links source s served.ones) (sym none.same) served.each);
   closed = subst (λ c. ClosesAll before.closed c served.ones) (sym none.closed) served.closed;
+  in_turn =
+      none.asked
+      ∙ (ap (with_more (call ∷ [])) served.in_turn
+      ∙ (calls_then (turns served.ones ++ []) (call ∷ []) before.calls
+      ∙ ap (λ made. with_more (made ++ call ∷ []) before.calls) (append-nil (turns served.ones))));
 }
 
 -- the connection of a fresh link, by the counts that it had
@@ -71,11 +96,13 @@ served_fresh name version came held read_faults write_faults one source source_n
 -- the next link, which was given and served
 pub first_served : (name : List ℕ) (version : Option ℕ) (before mid now : PortAt) (came held : Option (List ℕ)) (source source_now : Seen)
     → GivesFirst before.links mid.links came held → IsAtEnd held → mid.closed ≡ before.closed → mid.faults ≡ before.faults
-    → now.links ≡ mid.links → now.faults ≡ mid.faults → ServesOne name version came held mid.closed now.closed source source_now
+    → mid.calls ≡ with_more (PortCall.Gave ∷ []) before.calls
+    → now.links ≡ mid.links → now.faults ≡ mid.faults → now.calls ≡ with_more (PortCall.TookBack ∷ []) mid.calls → ServesOne name version came held mid.closed now.closed source source_now
     → ServesFirst name version before now source source_now
-first_served name version before mid now came held source source_now first unused closed faults links quiet serves = record {
+first_served name version before mid now came held source source_now first unused closed faults gave links quiet took serves = record {
   one = serves.one;
   given_back = subst (λ c. ClosesOne c now.closed serves.one) closed serves.given_back;
+  in_turn = took ∙ (ap (with_more (PortCall.TookBack ∷ [])) gave ∙ calls_then (PortCall.Gave ∷ []) (PortCall.TookBack ∷ []) before.calls);
   serves = record {
     came = came;
     held = held;
@@ -92,3 +119,23 @@ pub next_served : (E : Type 0) (name : List ℕ) (version : Option ℕ) (before 
     → ServesNext {E = E} name version before now source source_now (Ok came) → ServesFirst name version before now source source_now
 next_served E name version before now source source_now came is serves =
     subst (λ t. ServesNext {E = E} name version before now source source_now (Ok t)) is serves
+
+-- and where none came the port has ended
+pub none_came : (E : Type 0) (name : List ℕ) (version : Option ℕ) (before now : PortAt) (source source_now : Seen) (came : Bool) → came ≡ false
+    → ServesNext {E = E} name version before now source source_now (Ok came)
+    → ServesNone PortCall.Ended before now source source_now × HasNone before.links × (now.faults ≡ before.faults)
+none_came E name version before now source source_now came is serves =
+    subst (λ t. ServesNext {E = E} name version before now source source_now (Ok t)) is serves
+
+-- all links were served that came before the port ended
+pub all_that_came : (name : List ℕ) (version : Option ℕ) (asked : ℕ) (before mid now : PortAt) (source after source_now : Seen) (count : ℕ) → count ≤ asked
+    → mid.faults ≡ before.faults → ServesLinks name version before mid source after count []
+    → ServesNone PortCall.Ended mid now after source_now × HasNone mid.links × (now.faults ≡ mid.faults)
+    → ServedAll name version asked before now source source_now count
+all_that_came name version asked before mid now source after source_now count few quiet served none = record {
+  last = PortCall.Ended ∷ [];
+  served = none_more name version before mid now source after source_now count PortCall.Ended served none.0;
+  few = few;
+  enough = inr (subst HasNone (sym none.0.links) none.1, refl);
+  quiet = none.2 ∙ quiet;
+}

@@ -1,6 +1,7 @@
 -- How the links of a port are served, one after another.
 use Rattle.std.specs.Prelude.{◌≡◌, ◌⊎◌, ◌<◌, ◌≤◌, ℕ, true, false, List, [], ◌∷◌, ◌++◌, Option, Some, None, Result, Ok, Err, Bool, length, ⊤}
 use Rattle.std.specs.Io.KnownBytes.{IsAtEnd}
+use Rattle.tk_io.specs.Calls.{PortCall, with_more}
 use Rattle.tk_io.specs.Faults.{Rose}
 use Rattle.tk_io.specs.Links.{Closed, ClosesOne, GivesFirst, HasNone}
 use Rattle.source_node.specs.Connections.{Ends, Visit}
@@ -9,15 +10,17 @@ use Rattle.source_node.specs.declared.node.ConnEnd.{ConnEnd}
 use Rattle.source_node.specs.declared.serving.Served.{Served}
 use Rattle.source_node.specs.declared.serving.Served.TheVariants.{Ended, PortFault}
 
--- a port: the bytes of the links to come and the links that were given back, where it tells them, and its count of faults
+-- a port: the bytes of the links to come and the links that were given back, where it tells them, its count of faults, and the calls that were made of it, where
+-- it tells them
 pub record PortAt : Type 0 where
   pub links : Option (List (List ℕ))
   pub closed : Option (List Closed)
   pub faults : ℕ
+  pub calls : Option (List PortCall)
 
 -- a port by what it tells and counts
-abbrev pub port_as : {P : Type 0} → (P → Option (List (List ℕ))) → (P → Option (List Closed)) → (P → ℕ) → P → PortAt
-port_as links closed faults port = record { links = links port; closed = closed port; faults = faults port }
+abbrev pub port_as : {P : Type 0} → (P → Option (List (List ℕ))) → (P → Option (List Closed)) → (P → ℕ) → (P → Option (List PortCall)) → P → PortAt
+port_as links closed faults calls port = record { links = links port; closed = closed port; faults = faults port; calls = calls port }
 
 -- the connection of a link that was just given: what came of it, and what it had taken and how many of its calls had failed when it was given back
 abbrev pub visit_of : Option (List ℕ) → Option (List ℕ) → Closed → Seen → Seen → Visit
@@ -55,25 +58,32 @@ ClosesAll None closed_now ones = ⊤
 ClosesAll (Some closed) None ones = ⊥
 ClosesAll (Some closed) (Some closed_now) ones = closed_now ≡ closed ++ ones
 
--- so many links of a port were served, and each was given back
-pub record ServesLinks (name : List ℕ) (version : Option ℕ) (before now : PortAt) (source source_now : Seen) (count : ℕ) : Type 0 where
+-- the calls of a port that gave these links in turn: it took each back before it gave the next
+abbrev pub turns : List Closed → List PortCall
+turns [] = []
+turns (one ∷ more) = PortCall.Gave ∷ PortCall.TookBack ∷ turns more
+
+-- so many links of a port were served in turn, each was given back before the next was taken, and behind the last of them these calls were made of the port
+pub record ServesLinks (name : List ℕ) (version : Option ℕ) (before now : PortAt) (source source_now : Seen) (count : ℕ) (last : List PortCall) : Type 0 where
   pub ones : List Closed
   pub number : count ≡ length ones
   pub each : ServesEach name version before.links now.links source source_now ones
   pub closed : ClosesAll before.closed now.closed ones
+  pub in_turn : now.calls ≡ with_more (turns ones ++ last) before.calls
 
--- all links that were asked for were served, or all that came before the port ended
+-- all links that were asked for were served, and the port was asked for no more, or all that came before the port ended
 pub record ServedAll (name : List ℕ) (version : Option ℕ) (asked : ℕ) (before now : PortAt) (source source_now : Seen) (count : ℕ) : Type 0 where
-  pub served : ServesLinks name version before now source source_now count
+  pub last : List PortCall
+  pub served : ServesLinks name version before now source source_now count last
   pub few : count ≤ asked
-  pub enough : (count ≡ asked) ⊎ HasNone now.links
+  pub enough : ((count ≡ asked) × (last ≡ [])) ⊎ (HasNone now.links × (last ≡ PortCall.Ended ∷ []))
   pub quiet : now.faults ≡ before.faults
 
 -- some links were served before the port failed to give one
 pub record ServedSome (name : List ℕ) (version : Option ℕ) (asked : ℕ) (before now : PortAt) (source source_now : Seen) : Type 0 where
   pub count : ℕ
   pub few : count < asked
-  pub served : ServesLinks name version before now source source_now count
+  pub served : ServesLinks name version before now source source_now count (PortCall.Failed ∷ [])
   pub rose : Rose before.faults now.faults
 
 -- how serving so many links ends
@@ -89,15 +99,17 @@ pub record ServesOne (name : List ℕ) (version : Option ℕ) (came held : Optio
   pub end : ConnEnd
   pub ends : Ends name version (visit_of came held one source source_now) end
 
--- the next link was taken, served and given back
+-- the next link was taken, served and given back, and no other was asked for
 pub record ServesFirst (name : List ℕ) (version : Option ℕ) (before now : PortAt) (source source_now : Seen) : Type 0 where
   pub one : Closed
   pub given_back : ClosesOne before.closed now.closed one
+  pub in_turn : now.calls ≡ with_more (PortCall.Gave ∷ PortCall.TookBack ∷ []) before.calls
   pub serves : ServesLink name version before.links now.links source source_now one
   pub quiet : now.faults ≡ before.faults
 
--- no link was taken
-pub record ServesNone (before now : PortAt) (source source_now : Seen) : Type 0 where
+-- a link was asked for, which came to this call, and none was taken
+pub record ServesNone (call : PortCall) (before now : PortAt) (source source_now : Seen) : Type 0 where
+  pub asked : now.calls ≡ with_more (call ∷ []) before.calls
   pub links : now.links ≡ before.links
   pub closed : now.closed ≡ before.closed
   pub same : source_now ≡ source
@@ -106,5 +118,5 @@ pub record ServesNone (before now : PortAt) (source source_now : Seen) : Type 0 
 abbrev pub ServesNext : {E : Type 0} → List ℕ → Option ℕ → PortAt → PortAt → Seen → Seen → Result Bool E → Type 0
 ServesNext name version before now source source_now (Ok true) = ServesFirst name version before now source source_now
 ServesNext name version before now source source_now (Ok false) =
-    ServesNone before now source source_now × HasNone before.links × (now.faults ≡ before.faults)
-ServesNext name version before now source source_now (Err failed) = ServesNone before now source source_now × Rose before.faults now.faults
+    ServesNone PortCall.Ended before now source source_now × HasNone before.links × (now.faults ≡ before.faults)
+ServesNext name version before now source source_now (Err failed) = ServesNone PortCall.Failed before now source source_now × Rose before.faults now.faults

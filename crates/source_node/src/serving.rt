@@ -1,6 +1,7 @@
 //! The links of a port, one after another.
 
-ghost use Rattle.std.specs.Prelude.{◌≡◌};
+ghost use Rattle.std.specs.Prelude.{◌≡◌, [], ◌∷◌};
+ghost use Rattle.tk_io.specs.Calls.{PortCall, with_more};
 ghost use Rattle.tk_io.specs.Links.{IsFresh};
 ghost use Rattle.source_api.specs.Counting.{NoneFell};
 ghost use Rattle.source_node.specs.Serving.{seen};
@@ -21,9 +22,10 @@ pub enum Served {
 }
 
 /// Serves the list of this name to at most so many links of a port, one after another. Each link is taken,
-/// its one request answered as [`node_conn`] does, and given back before the next is taken. A link that
-/// fails ends its own connection alone, and so does want of memory. The port has to listen already. The
-/// call may wait for ever.
+/// its one request answered as [`node_conn`] does, and given back before the next is taken. Once so many
+/// were served, or the port ended or failed, it is asked for no further link. A link that fails ends its
+/// own connection alone, and so does want of memory. The port has to listen already. The call may wait for
+/// ever.
 pub fn serve_links<S: Source, P: Port>(
     alloc: Global,
     name: &str,
@@ -36,8 +38,8 @@ pub fn serve_links<S: Source, P: Port>(
     ensures states { S.states source.new ≡ S.states source.old }
     ensures later { NoneFell (S.counts source.old) (S.counts source.new) }
     ensures ends { EndsServing name.now version conns
-        (port_as P.links P.closed P.faults port.old)
-        (port_as P.links P.closed P.faults port.new)
+        (port_as P.links P.closed P.faults P.calls port.old)
+        (port_as P.links P.closed P.faults P.calls port.new)
         (seen (S.list source.old) (S.counts source.old) (S.calls source.old) (S.at_hand source.old) (S.states source.old))
         (seen (S.list source.new) (S.counts source.new) (S.calls source.new) (S.at_hand source.new) (S.states source.new))
         result }
@@ -65,8 +67,8 @@ fn serve_next<S: Source, P: Port>(
     ensures states { S.states source.new ≡ S.states source.old }
     ensures later { NoneFell (S.counts source.old) (S.counts source.new) }
     ensures serves { ServesNext name.now version
-        (port_as P.links P.closed P.faults port.old)
-        (port_as P.links P.closed P.faults port.new)
+        (port_as P.links P.closed P.faults P.calls port.old)
+        (port_as P.links P.closed P.faults P.calls port.new)
         (seen (S.list source.old) (S.counts source.old) (S.calls source.old) (S.at_hand source.old) (S.states source.old))
         (seen (S.list source.new) (S.counts source.new) (S.calls source.new) (S.at_hand source.new) (S.states source.new))
         result }
@@ -97,6 +99,7 @@ fn serve_link<S: Source, P: Port>(
     ensures later { NoneFell (S.counts source.old) (S.counts source.new) }
     ensures links { P.links port.new ≡ P.links port.old }
     ensures faults { P.faults port.new ≡ P.faults port.old }
+    ensures calls { P.calls port.new ≡ with_more (PortCall.TookBack ∷ []) (P.calls port.old) }
     ensures serves { ServesOne name.now version (P.L.left link) (P.L.held link) (P.closed port.old) (P.closed port.new)
         (seen (S.list source.old) (S.counts source.old) (S.calls source.old) (S.at_hand source.old) (S.states source.old))
         (seen (S.list source.new) (S.counts source.new) (S.calls source.new) (S.at_hand source.new) (S.states source.new)) }
