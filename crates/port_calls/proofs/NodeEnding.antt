@@ -1,11 +1,13 @@
 -- How a node ends, by what was done.
-use Rattle.std.proofs.Common.{◌≡◌, ℕ, Bool, true, false, cond, List, length, codes, Option, Some, None, Err, nat_lt, inl, inr, refl, sym, ap, ◌∙◌, subst, ltb-false}
+use Rattle.std.proofs.Common.{◌≡◌, ℕ, Bool, true, false, cond, List, [], ◌∷◌, length, codes, Option, Some, None, Err, nat_lt, inl, inr, refl, sym, ap, ◌∙◌, subst, ltb-false}
 use Rattle.std.specs.Prelude.{find, option_map, slice_get}
 use Rattle.std.specs.List.{position, position_or_len}
 use Rattle.std.specs.Option.{option_and_then}
 use Rattle.std.specs.Str.{bytes_eq}
 use Rattle.std.proofs.lemmas.List.Folds.{find_at}
 use Rattle.std.proofs.lemmas.Option.{slice_get_past}
+use Rattle.tk_io.specs.Calls.{PortCall, with_more}
+use Rattle.tk_io.specs.Links.{Closed}
 use Rattle.csv_records.specs.Records.{records_of}
 use Rattle.catalog_text.specs.Catalog.{Listed as Entry}
 use Rattle.catalog_text.specs.Judging.{Judges}
@@ -18,12 +20,43 @@ use Rattle.call_ends.specs.declared.status.Status.{Status}
 use Rattle.call_ends.specs.declared.status.Status.TheVariants.{Done, Partial, BadCatalog, Memory, PortFault, OpenFault, WriteFault, BadWords, ReadFault, LongInput, BadInput}
 use Rattle.catalog_run.specs.Faults.{SaysFault}
 use Rattle.catalog_run.specs.Running.{catalog_refused_text}
+use Rattle.source_node.specs.Serving.{Seen}
+use Rattle.source_node.specs.ServingLinks.{PortAt, EndsServing}
 use Rattle.source_node.specs.declared.serving.Served.{Served}
 use Rattle.source_node.specs.declared.serving.Served.TheVariants.{Ended, PortFault as AtFault}
-use Rattle.port_calls.specs.NodeEnds.{AskedNothing, NoCatalog, Unlisted, ServesPlace, EndsAtPlace, EndsListed, EndsOverCatalog, EndsOn, EndsNode}
+use Rattle.port_calls.specs.NodeEnds.{AskedNothing, NoCatalog, Unlisted, ServesAt, ServesPlace, EndsAtPlace, EndsListed, EndsOverCatalog, EndsOn, EndsNode}
 use Rattle.port_calls.specs.NodeTexts.{SaysServed}
 use Rattle.port_calls.specs.Named.{place_named}
 use Rattle.port_calls.specs.Ports.{Ports}
+
+-- links that were served at a port which listens, which had been left as it was but for that
+pub serves_at : (o : NodeOptions) (name : List ℕ) (p : Ports) (mid : PortAt) (source source_now : Seen) (served : Served) → name ≡ o.name
+    → mid.links ≡ p.before.links → mid.closed ≡ p.before.closed → mid.faults ≡ p.before.faults
+    → mid.calls ≡ with_more (PortCall.Listened o.listening.at ∷ []) p.before.calls
+    → EndsServing name o.version o.listening.conns mid p.after source source_now served → ServesAt o p source source_now served
+serves_at o name p mid source source_now served same links closed faults calls ends =
+    by served (at_calls (at_faults (at_closed (at_links (subst (λ (n : List ℕ). EndsServing n o.version o.listening.conns mid p.after source source_now served) same ends)))))
+  where
+    Ends : Option (List (List ℕ)) → Option (List Closed) → ℕ → Option (List PortCall) → Served → Type 0
+    Ends l c f k s = EndsServing o.name o.version o.listening.conns (record { links = l; closed = c; faults = f; calls = k }) p.after source source_now s
+
+    at_links : Ends mid.links mid.closed mid.faults mid.calls served → Ends p.before.links mid.closed mid.faults mid.calls served
+    at_links e = subst (λ (l : Option (List (List ℕ))). Ends l mid.closed mid.faults mid.calls served) links e
+
+    at_closed : Ends p.before.links mid.closed mid.faults mid.calls served → Ends p.before.links p.before.closed mid.faults mid.calls served
+    at_closed e = subst (λ (c : Option (List Closed)). Ends p.before.links c mid.faults mid.calls served) closed e
+
+    at_faults : Ends p.before.links p.before.closed mid.faults mid.calls served → Ends p.before.links p.before.closed p.before.faults mid.calls served
+    at_faults e = subst (λ (f : ℕ). Ends p.before.links p.before.closed f mid.calls served) faults e
+
+    at_calls : Ends p.before.links p.before.closed p.before.faults mid.calls served
+        → Ends p.before.links p.before.closed p.before.faults (with_more (PortCall.Listened o.listening.at ∷ []) p.before.calls) served
+    at_calls e = subst (λ (k : Option (List PortCall)). Ends p.before.links p.before.closed p.before.faults k served) calls e
+
+    by : (s : Served) → Ends p.before.links p.before.closed p.before.faults (with_more (PortCall.Listened o.listening.at ∷ []) p.before.calls) s
+        → ServesAt o p source source_now s
+    by (Ended count) e = e
+    by AtFault e = inr e
 
 -- what is said of links that were served ends so
 pub ends_served : (o : NodeOptions) (place : List ℕ) (c : Call) (p : Ports) (served : Served) (result : Status) → ServesPlace o place c p served

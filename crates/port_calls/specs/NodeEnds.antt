@@ -18,7 +18,7 @@ use Rattle.catalog_run.specs.Running.{RefusesCatalog}
 use Rattle.catalog_run.specs.RunEnds.{from_shelf}
 use Rattle.port_calls.specs.Named.{place_named}
 use Rattle.port_calls.specs.NodeTexts.{served_text, unlisted_text}
-use Rattle.port_calls.specs.Ports.{Ports, KeepsPort}
+use Rattle.port_calls.specs.Ports.{Ports, KeepsPort, listening}
 
 -- the source of a place was taken of a shelf, and put back when it had become this one; nothing was counted at other places
 pub record Borrows (place : List ℕ) (before now : Shelf) (source source_now : Seen) : Type 0 where
@@ -47,18 +47,22 @@ pub record TakeRefused (place : List ℕ) (before now : Shelf) : Type 0 where
   pub none : TakesNone place before now
   pub same : now.at place ≡ before.at place
 
--- the port failed to listen: no link was taken, and the source wasn't asked
-pub record ListenFailed (p : Ports) (source source_now : Seen) : Type 0 where
+-- the port failed to listen at this number: it was asked for no link, and the source wasn't asked
+pub record ListenFailed (number : ℕ) (p : Ports) (source source_now : Seen) : Type 0 where
   pub links : p.after.links ≡ p.before.links
   pub closed : p.after.closed ≡ p.before.closed
   pub rose : Rose p.before.faults p.after.faults
+  pub calls : p.after.calls ≡ (listening number p.before).calls
   pub same : source_now ≡ source
 
--- how a source is served at a port: to so many links as are asked for or as come, each of which gets what a connection of a node gets; or the port failed
+-- how a source is served at a port, which listens at the number of the options: to so many links as are asked for or as come, each of which gets what a
+-- connection of a node gets; or the port failed
 abbrev pub ServesAt : NodeOptions → Ports → Seen → Seen → Served → Type 0
-ServesAt o p source source_now (Ended count) = ServedAll o.name o.version o.listening.conns p.before p.after source source_now count
+ServesAt o p source source_now (Ended count) =
+    ServedAll o.name o.version o.listening.conns (listening o.listening.at p.before) p.after source source_now count
 ServesAt o p source source_now AtFault =
-    ListenFailed p source source_now ⊎ ServedSome o.name o.version o.listening.conns p.before p.after source source_now
+    ListenFailed o.listening.at p source source_now
+    ⊎ ServedSome o.name o.version o.listening.conns (listening o.listening.at p.before) p.after source source_now
 
 -- the source of a place was taken, served at the port and put back
 pub record ServesPlace (o : NodeOptions) (place : List ℕ) (c : Call) (p : Ports) (served : Served) : Type 0 where

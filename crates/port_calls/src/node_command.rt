@@ -43,7 +43,7 @@ pub fn node<H: Shelf, K: Sink, P: Port>(
     ensures ends { (words : List (List ℕ)) (input : Input) → EndsNode options.now
         (call_at words (outside_of input (output_as K.held K.faults out.old) (shelf_as H.texts H.lists H.versions H.at shelf.old))
         (outside_of input (output_as K.held K.faults out.new) (shelf_as H.texts H.lists H.versions H.at shelf.new)))
-        (ports_of P.links P.closed P.faults (port.old, port.new)) result }
+        (ports_of P.links P.closed P.faults P.calls (port.old, port.new)) result }
 {
     let text = match shelf.text(alloc, options.catalog.as_str()) {
         Ok(text) => text,
@@ -81,7 +81,7 @@ fn node_in<H: Shelf, K: Sink, P: Port>(
         → EndsOverCatalog options.now text
         (call_at words (outside_of input (output_as K.held K.faults out.old) (shelf_as H.texts H.lists H.versions H.at shelf.old))
         (outside_of input (output_as K.held K.faults out.new) (shelf_as H.texts H.lists H.versions H.at shelf.new)))
-        (ports_of P.links P.closed P.faults (port.old, port.new)) result }
+        (ports_of P.links P.closed P.faults P.calls (port.old, port.new)) result }
 {
     match place_named(catalog, options.name.as_str()) {
         Some(place) => serve_place(alloc, place, options, shelf, out, port),

@@ -28,7 +28,7 @@ pub(crate) fn serve_place<H: Shelf, K: Sink, P: Port>(
     ensures ends { (words : List (List ℕ)) (input : Input) → EndsAtPlace options.now place.now
         (call_at words (outside_of input (output_as K.held K.faults out.old) (shelf_as H.texts H.lists H.versions H.at shelf.old))
         (outside_of input (output_as K.held K.faults out.new) (shelf_as H.texts H.lists H.versions H.at shelf.new)))
-        (ports_of P.links P.closed P.faults (port.old, port.new)) result }
+        (ports_of P.links P.closed P.faults P.calls (port.old, port.new)) result }
 {
     match shelf.take(alloc, place) {
         Ok(mut source) => {
@@ -53,7 +53,7 @@ fn serve_source<S: Source, P: Port>(
     ensures list { S.list source.new ≡ S.list source.old }
     ensures states { S.states source.new ≡ S.states source.old }
     ensures later { NoneFell (S.counts source.old) (S.counts source.new) }
-    ensures serves { ServesAt options.now (ports_of P.links P.closed P.faults (port.old, port.new))
+    ensures serves { ServesAt options.now (ports_of P.links P.closed P.faults P.calls (port.old, port.new))
         (seen (S.list source.old) (S.counts source.old) (S.calls source.old) (S.at_hand source.old) (S.states source.old))
         (seen (S.list source.new) (S.counts source.new) (S.calls source.new) (S.at_hand source.new) (S.states source.new))
         result }

@@ -45,7 +45,7 @@ pub fn serve<W: Threads + Wait + Sync, H: Shelf, K: Sink, P: Port>(
     ensures ends { (words : List (List ℕ)) (input : Input) → EndsServe options.now
         (call_at words (outside_of input (output_as K.held K.faults out.old) (shelf_as H.texts H.lists H.versions H.at shelf.old))
         (outside_of input (output_as K.held K.faults out.new) (shelf_as H.texts H.lists H.versions H.at shelf.new)))
-        (ports_of P.links P.closed P.faults (port.old, port.new)) result }
+        (ports_of P.links P.closed P.faults P.calls (port.old, port.new)) result }
 {
     let text = match shelf.text(alloc, options.catalog.as_str()) {
         Ok(text) => text,

@@ -37,7 +37,7 @@ pub(crate) fn serve_lists<W: Threads + Wait + Sync, H: Shelf, P: Port>(
     requires { AreSettings options.now.settings }
     ensures { EndsLists options.now.listening.conns catalog
         (shelf_as H.texts H.lists H.versions H.at shelf.old) (shelf_as H.texts H.lists H.versions H.at shelf.new)
-        (ports_of P.links P.closed P.faults (port.old, port.new)) result }
+        (ports_of P.links P.closed P.faults P.calls (port.old, port.new)) result }
 {
     let mut opened = Opened::make(alloc);
     let mut slots = Vec::new(alloc);
@@ -111,7 +111,7 @@ fn serve_at<W: Threads + Wait + Sync, S: Source, P: Port>(
     ensures idle { All IsIdle slots.new.items }
     ensures many { length slots.new.items ≡ length slots.old.items }
     ensures catalog { lists.new.catalog ≡ lists.old.catalog }
-    ensures serves { ServesPort options.now.listening.conns (ports_of P.links P.closed P.faults (port.old, port.new)) result }
+    ensures serves { ServesPort options.now.listening.conns (ports_of P.links P.closed P.faults P.calls (port.old, port.new)) result }
     ensures closed { P.closed port.new ≡ P.closed port.old }
 {
     match port.listen(options.listening.at) {

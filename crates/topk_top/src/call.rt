@@ -53,7 +53,7 @@ pub fn top<W: Threads + Wait + Sync, H: Shelf, R: Intake, K: Sink, P: Port>(
     ensures writes { K.faults out.old ≤ K.faults out.new }
     ensures ends { CallEnds (call_of R.left R.faults K.held K.faults H.texts H.lists H.versions H.at words.now
         (input.old, out.old, shelf.old) (input.new, out.new, shelf.new))
-        (ports_of P.links P.closed P.faults (port.old, port.new)) result }
+        (ports_of P.links P.closed P.faults P.calls (port.old, port.new)) result }
 {
     match read_command(alloc, words) {
         Ok(Command::One) => one(alloc, input, out),

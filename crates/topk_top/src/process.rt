@@ -30,7 +30,7 @@ pub fn run_process<W: Threads + Wait + Sync, E: Env, H: Shelf, R: Intake, K: Sin
 ) -> u8
     ensures { (words : List (List ℕ)) × ExitsBy (call_of R.left R.faults K.held K.faults H.texts H.lists H.versions H.at words
         (input.old, out.old, shelf.old) (input.new, out.new, shelf.new))
-        (ports_of P.links P.closed P.faults (port.old, port.new)) result }
+        (ports_of P.links P.closed P.faults P.calls (port.old, port.new)) result }
 {
     let words = match read_words(env, alloc) {
         Ok(words) => words,

@@ -21,7 +21,7 @@ returns-in-None-clause-ends g c = λ words input text is.
     let call : Call = call_at words (outside_of input (output_as g.K.Sink.held g.K.Sink.faults c.args.out.now) shelf) (outside_of input (output_as g.K.Sink.held g.K.Sink.faults c.refuse_name.new.out) shelf) in
     let none : place_named c.args.options.now.name c.args.catalog.now ≡ None =
     sym (ap (λ name. place_named name c.args.catalog.now) c.as_str.ensures) ∙ sym c.place_named.ensures ∙ ap (option_map (λ place. place.now)) c.in-None.is in
-    ends_unlisted c.args.options.now text (unlisted_text c.args.options.now.name) call (ports_of g.P.Port.links g.P.Port.closed g.P.Port.faults (c.args.port.now, c.args.port.now)) c.refuse_name.result
+    ends_unlisted c.args.options.now text (unlisted_text c.args.options.now.name) call (ports_of g.P.Port.links g.P.Port.closed g.P.Port.faults g.P.Port.calls (c.args.port.now, c.args.port.now)) c.refuse_name.result
     (record { catalog = c.args.catalog.now; is = is; none = none; said_is = refl; nothing = record { shelf = refl; port = refl } })
     (subst (λ name. Says (output_as g.K.Sink.held g.K.Sink.faults c.args.out.now) (output_as g.K.Sink.held g.K.Sink.faults c.refuse_name.new.out) (unlisted_text name) Partial c.refuse_name.result)
     c.as_str-in-None.ensures c.refuse_name.ensures.says)

@@ -22,11 +22,11 @@ returns-in-Ok-read-clause-ends g c = λ words input.
     let gives : GivesText c.args.options.now.catalog before given c.in-Ok.text.items =
     text_given c.args.options.now.catalog c.as_str.result.now before given c.in-Ok.text.items c.as_str.ensures c.text.ensures.texts c.text.ensures.lists c.text.ensures.versions c.text.ensures.elsewhere c.text.ensures.counts
     c.in-Ok.ensures.text (omega (arith, c.in-Ok.ensures.within, c.in-Ok.text.ok.0)) in
-    ends_on c.args.options.now call (ports_of g.P.Port.links g.P.Port.closed g.P.Port.faults (c.args.port.now, c.serve_lists-served.new.port)) c.end_served.result (
+    ends_on c.args.options.now call (ports_of g.P.Port.links g.P.Port.closed g.P.Port.faults g.P.Port.calls (c.args.port.now, c.serve_lists-served.new.port)) c.end_served.result (
       c.in-Ok.text.items,
       given,
       gives,
-      ends_served c.args.options.now c.in-Ok.text.items c.in-Ok-read.catalog (from_shelf given call) (ports_of g.P.Port.links g.P.Port.closed g.P.Port.faults (c.args.port.now, c.serve_lists-served.new.port))
+      ends_served c.args.options.now c.in-Ok.text.items c.in-Ok-read.catalog (from_shelf given call) (ports_of g.P.Port.links g.P.Port.closed g.P.Port.faults g.P.Port.calls (c.args.port.now, c.serve_lists-served.new.port))
           c.serve_lists-served.result c.end_served.result (subst (λ bytes. IsCatalog (records_of bytes) c.in-Ok-read.catalog) c.deref.ensures.value c.in-Ok-read.ensures)
           c.serve_lists-served.ensures c.end_served.ensures.says,
     )
@@ -39,11 +39,11 @@ returns-in-Err-clause-ends g c = λ words input.
     let gives : GivesText c.args.options.now.catalog before given c.in-Ok.text.items =
     text_given c.args.options.now.catalog c.as_str.result.now before given c.in-Ok.text.items c.as_str.ensures c.text.ensures.texts c.text.ensures.lists c.text.ensures.versions c.text.ensures.elsewhere c.text.ensures.counts
     c.in-Ok.ensures.text (omega (arith, c.in-Ok.ensures.within, c.in-Ok.text.ok.0)) in
-    ends_on c.args.options.now call (ports_of g.P.Port.links g.P.Port.closed g.P.Port.faults (c.args.port.now, c.args.port.now)) c.refuse.result (
+    ends_on c.args.options.now call (ports_of g.P.Port.links g.P.Port.closed g.P.Port.faults g.P.Port.calls (c.args.port.now, c.args.port.now)) c.refuse.result (
       c.in-Ok.text.items,
       given,
       gives,
-      ends_at_fault c.args.options.now c.in-Ok.text.items (from_shelf given call) (ports_of g.P.Port.links g.P.Port.closed g.P.Port.faults (c.args.port.now, c.args.port.now)) c.in-Err.fault c.refuse.result
+      ends_at_fault c.args.options.now c.in-Ok.text.items (from_shelf given call) (ports_of g.P.Port.links g.P.Port.closed g.P.Port.faults g.P.Port.calls (c.args.port.now, c.args.port.now)) c.in-Err.fault c.refuse.result
           (subst (λ bytes. Judges (records_of bytes) (Err c.in-Err.fault)) c.deref.ensures.value c.in-Err.ensures) (record { shelf = refl; port = refl }) c.refuse.ensures.says,
     )
 

@@ -14,7 +14,7 @@ returns-in-Ok g c =
     let o = c.open_all.ensures in
     let b = c.put_back_all.ensures in
     let same : c.catalog-in-Ok.result.now ≡ c.args.catalog = c.catalog-in-Ok.ensures ∙ c.serve_at-served.ensures.catalog ∙ ap (λ (l : Openings). l.catalog) c.make-lists.ensures in
-    lists_end c.args.options.now.listening.conns c.args.catalog before after (ports_of g.P.Port.links g.P.Port.closed g.P.Port.faults (c.args.port.now, c.serve_at-served.new.port)) c.serve_at-served.result
+    lists_end c.args.options.now.listening.conns c.args.catalog before after (ports_of g.P.Port.links g.P.Port.closed g.P.Port.faults g.P.Port.calls (c.args.port.now, c.serve_at-served.new.port)) c.serve_at-served.result
     (borrows_all c.args.catalog before mid after _
     (borrows_from g.H.Item.Source.counts c.args.catalog c.catalog-in-Ok.result.now before mid after c.open_all.new.opened.openings.items _ c.deref.result.now _ same c.deref.ensures.value
     o.texts o.lists o.versions b.texts b.lists b.versions o.opened o.few_asks b.moves b.others (c.serve_at-served.ensures.many ∙ o.many))

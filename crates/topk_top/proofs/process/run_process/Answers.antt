@@ -16,7 +16,7 @@ returns-in-Err-Memory g c =
     let held = g.K.Sink.held c.args.out.now in
     let shelf : Shelf = shelf_at (g.H.Shelf.texts c.args.shelf.now) (g.H.Shelf.lists c.args.shelf.now) (g.H.Shelf.versions c.args.shelf.now) (g.H.Shelf.at c.args.shelf.now) in
     let outside : Outside = outside_at left (g.R.Intake.faults c.args.input.now) held (g.K.Sink.faults c.args.out.now) shelf in
-    let ports : Ports = ports_of g.P.Port.links g.P.Port.closed g.P.Port.faults (c.args.port.now, c.args.port.now) in
+    let ports : Ports = ports_of g.P.Port.links g.P.Port.closed g.P.Port.faults g.P.Port.calls (c.args.port.now, c.args.port.now) in
     let ends = ends_without_memory (command_of []) (call_at [] outside outside) ports refl refl
     (record { left = Keeps-refl left; faults = refl }) (record { held = Keeps-refl held; faults = refl }) in
     ([], (Memory, ends, c.code.ensures))
