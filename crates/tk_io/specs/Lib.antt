@@ -6,5 +6,6 @@ pub mod LinksInMemory
 pub mod Links
 pub mod Outside
 pub mod Pieces
+pub mod Reads
 pub mod Sides
 pub mod Whole
