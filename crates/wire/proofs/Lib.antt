@@ -4,7 +4,9 @@ mod FindLaws
 pub mod OnlyLaws
 mod PartLaws
 mod ReplyLaws
+mod SparingLaws
 mod StepLaws
+mod WholeLaws
 pub mod ToldLaws
 mod WritingLaws
 pub mod TargetLaws

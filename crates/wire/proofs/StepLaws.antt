@@ -28,7 +28,7 @@ pulled came seen taken text text_now left count most is rest grown within few = 
 )
 
 -- what isn't 0 is more
-positive : (n : ℕ) → (n ≡ 0 → ⊥) → 0 < n
+pub positive : (n : ℕ) → (n ≡ 0 → ⊥) → 0 < n
 positive zero not_so = absurd (not_so refl)
 positive (suc n) not_so = omega arith
 

@@ -4,6 +4,7 @@ pub mod Bodies
 pub mod Heads
 pub mod Parts
 pub mod Responses
+pub mod Sparing
 pub mod Steps
 pub mod LinkTold
 pub mod Wording

@@ -9,6 +9,10 @@ use Rattle.wire.specs.declared.found.Found.{Found}
 abbrev pub Reads : {A : Type 0} → (A → Type 0) → (A → List ℕ) → List ℕ → A → List ℕ → Type 0
 Reads Valid print bytes part rest = Valid part × (bytes ≡ print part ++ rest)
 
+-- a part of the kind stands at the front
+abbrev pub HasOne : {A : Type 0} → (A → Type 0) → (A → List ℕ) → List ℕ → Type 0
+HasOne {A} Valid print bytes = (part : A) × (rest : List ℕ) × Reads Valid print bytes part rest
+
 -- no part of the kind stands at the front
 abbrev pub HasNone : {A : Type 0} → (A → Type 0) → (A → List ℕ) → List ℕ → Type 0
 HasNone {A} Valid print bytes = (part : A) (rest : List ℕ) → Reads Valid print bytes part rest → ⊥

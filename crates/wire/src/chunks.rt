@@ -1,11 +1,12 @@
 //! Bodies in chunks.
 
-ghost use Rattle.std.specs.Prelude.{◌≡◌, ◌≤◌, [], length, IfOk};
+ghost use Rattle.std.specs.Prelude.{◌≡◌, ◌≤◌, [], length, IfOk, OnOk};
 ghost use Rattle.httparse.specs.Ascii.{crlf_bytes};
 ghost use Rattle.httparse.specs.Grammar.{IsChunkLine, print_chunk_line};
 ghost use Rattle.httparse.specs.Spans.{IsSectionOf};
 ghost use Rattle.wire.specs.Bodies.{AreTrailers, print_trailers, PassesLine, PassesTrailers};
-ghost use Rattle.wire.specs.Parts.{Finds, Takes};
+ghost use Rattle.wire.specs.Parts.{Finds, HasOne, Takes};
+ghost use Rattle.wire.specs.Sparing.{HoldsBytes, HoldsChunk, HoldsChunks, ReadsSparingly, OfRead};
 ghost use Rattle.wire.specs.Steps.{SaysSize, SaysNothing, TakesBytes, TakesText, TakesChunk, TakesChunks};
 ghost use Rattle.wire.specs.LinkTold.{told, Counts};
 
@@ -27,6 +28,8 @@ pub(crate) fn take_chunks<R: Intake>(
     ensures takes { TakesChunks (told feed.old (R.left link.old)) (told feed.new (R.left link.new)) body.new.items result }
     ensures cause { Counts (R.faults link.old) (R.faults link.new) result }
     ensures apart { R.aside link.new ≡ R.aside link.old }
+    ensures sparing { ReadsSparingly HoldsChunks feed.old (R.pieces link.old) (R.pieces link.new) }
+    ensures came { OnOk result (OfRead (λ all rest. TakesChunks all rest body.new.items result) feed.old feed.new (R.pieces link.old) (R.pieces link.new)) }
 {
     while take_chunk(link, feed, body)? {}
     Ok(())
@@ -42,6 +45,8 @@ fn take_chunk<R: Intake>(
     ensures takes { TakesChunk (told feed.old (R.left link.old)) (told feed.new (R.left link.new)) body.old.items body.new.items result }
     ensures cause { Counts (R.faults link.old) (R.faults link.new) result }
     ensures apart { R.aside link.new ≡ R.aside link.old }
+    ensures sparing { ReadsSparingly HoldsChunk feed.old (R.pieces link.old) (R.pieces link.new) }
+    ensures came { OnOk result (OfRead (λ all rest. TakesChunk all rest body.old.items body.new.items result) feed.old feed.new (R.pieces link.old) (R.pieces link.new)) }
 {
     let size = take_line(link, feed)?;
     if size == 0 {
@@ -61,6 +66,8 @@ fn take_line<R: Intake>(link: &mut R, feed: &mut Feed) -> Result<u64, WireFault>
         (told feed.old (R.left link.old)) (told feed.new (R.left link.new)) result }
     ensures cause { Counts (R.faults link.old) (R.faults link.new) result }
     ensures apart { R.aside link.new ≡ R.aside link.old }
+    ensures sparing { ReadsSparingly (HasOne IsChunkLine print_chunk_line) feed.old (R.pieces link.old) (R.pieces link.new) }
+    ensures came { OnOk result (OfRead (λ all rest. Takes IsChunkLine print_chunk_line SaysSize PassesLine all rest result) feed.old feed.new (R.pieces link.old) (R.pieces link.new)) }
 {
     loop {
         match find_line(feed.came())? {
@@ -112,6 +119,8 @@ pub(crate) fn take_bytes<R: Intake>(
     ensures takes { TakesBytes count (told feed.old (R.left link.old)) (told feed.new (R.left link.new)) body.old.items body.new.items result }
     ensures cause { Counts (R.faults link.old) (R.faults link.new) result }
     ensures apart { R.aside link.new ≡ R.aside link.old }
+    ensures sparing { ReadsSparingly (HoldsBytes count) feed.old (R.pieces link.old) (R.pieces link.new) }
+    ensures came { OnOk result (OfRead (λ all rest. TakesBytes count all rest body.old.items body.new.items result) feed.old feed.new (R.pieces link.old) (R.pieces link.new)) }
 {
     let mut left = count;
     while left > 0 {
@@ -129,6 +138,8 @@ fn take_line_end<R: Intake>(link: &mut R, feed: &mut Feed) -> Result<(), WireFau
     ensures takes { TakesText crlf_bytes (told feed.old (R.left link.old)) (told feed.new (R.left link.new)) result }
     ensures cause { Counts (R.faults link.old) (R.faults link.new) result }
     ensures apart { R.aside link.new ≡ R.aside link.old }
+    ensures sparing { ReadsSparingly (HoldsBytes 2) feed.old (R.pieces link.old) (R.pieces link.new) }
+    ensures came { OnOk result (OfRead (λ all rest. TakesText crlf_bytes all rest result) feed.old feed.new (R.pieces link.old) (R.pieces link.new)) }
 {
     while feed.came().len() < 2 {
         if feed.fill(link)? == 0 {
@@ -148,6 +159,7 @@ pub(crate) fn take_trailers<R: Intake>(link: &mut R, feed: &mut Feed) -> Result<
         (told feed.old (R.left link.old)) (told feed.new (R.left link.new)) result }
     ensures cause { Counts (R.faults link.old) (R.faults link.new) result }
     ensures apart { R.aside link.new ≡ R.aside link.old }
+    ensures sparing { ReadsSparingly (HasOne AreTrailers print_trailers) feed.old (R.pieces link.old) (R.pieces link.new) }
 {
     loop {
         match find_trailers(feed.came())? {

@@ -3,6 +3,7 @@
 ghost use Rattle.std.specs.Prelude.{◌≡◌, ◌+◌, ◌≤◌, ◌<◌, ◌++◌, ℕ, List, [], length, drop, IfOk, IfErr, OnOk, OnErr};
 ghost use Rattle.std.specs.Io.KnownBytes.{Consumes, IsAtEnd};
 ghost use Rattle.wire.specs.LinkTold.{told, SameTold, Counts, IsOutside};
+ghost use Rattle.wire.specs.Sparing.{HoldsBytes, ReadsOnce, ReadsSparingly, GrewBy, OfRead, IsPulled};
 
 use super::WireFault;
 use std::alloc::Global;
@@ -71,6 +72,8 @@ impl Feed {
         ensures outside { IfErr result IsOutside }
         ensures cause { Counts (R.faults link.old) (R.faults link.new) result }
         ensures apart { R.aside link.new ≡ R.aside link.old }
+        ensures once { ReadsOnce (R.pieces link.old) (R.pieces link.new) }
+        ensures came { OnOk result (GrewBy self.old self.new (R.pieces link.old) (R.pieces link.new)) }
     {
         self.forget();
         let count = read_to(link, &mut self.bytes, PIECE)?;
@@ -93,6 +96,8 @@ impl Feed {
         ensures outside { IfErr result IsOutside }
         ensures cause { Counts (R.faults link.old) (R.faults link.new) result }
         ensures apart { R.aside link.new ≡ R.aside link.old }
+        ensures sparing { ReadsSparingly (HoldsBytes 1) self.old (R.pieces link.old) (R.pieces link.new) }
+        ensures came { IfOk result (λ count. OfRead (λ all rest. IsPulled all rest text.old.items text.new.items count) self.old self.new (R.pieces link.old) (R.pieces link.new)) }
     {
         let came = self.came();
         if came.is_empty() {
@@ -117,6 +122,8 @@ fn read_to<R: Intake>(link: &mut R, text: &mut Vec<u8>, most: usize) -> Result<u
     ensures outside { IfErr result IsOutside }
     ensures cause { Counts (R.faults link.old) (R.faults link.new) result }
     ensures apart { R.aside link.new ≡ R.aside link.old }
+    ensures once { ReadsOnce (R.pieces link.old) (R.pieces link.new) }
+    ensures came { OnOk result (GrewBy text.old.items text.new.items (R.pieces link.old) (R.pieces link.new)) }
 {
     let mut piece = [0; PIECE];
     let Ok(count) = link.read(&mut piece[..most]) else {

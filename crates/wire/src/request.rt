@@ -1,12 +1,13 @@
 //! The heads of requests.
 
-ghost use Rattle.std.specs.Prelude.{◌≡◌, ◌≤◌, true, false, IfOk, IfErr, IfSome, length};
+ghost use Rattle.std.specs.Prelude.{◌≡◌, ◌≤◌, [], true, false, IfOk, IfErr, IfSome, length};
 ghost use Rattle.httparse.specs.Grammar.{IsRequestHead, print_request};
 ghost use Rattle.httparse.specs.Spans.{IsRequestWithin, IsRequestOf};
 ghost use Rattle.wire.specs.Asking.{SaysRequest};
 ghost use Rattle.wire.specs.Heads.{AnswersRequest, PassesRequest};
 ghost use Rattle.wire.specs.Parts.{Finds, Takes};
 ghost use Rattle.wire.specs.LinkTold.{told, Counts};
+ghost use Rattle.wire.specs.Sparing.{HoldsRequest, ReadsSparingly};
 ghost use Rattle.wire.specs.declared.fault.WireFault.TheVariants.{BadMessage};
 
 use super::WireFault;
@@ -35,7 +36,7 @@ pub(crate) struct Asked {
     has_host: bool,
 }
 
-/// Reads the head of a request. Its body isn't read.
+/// Reads the head of a request. Its body isn't read, and once the whole head has come no read is made.
 ///
 /// A head that breaks the rule on Host lines is no message: a request of HTTP/1.1 has one such line, a
 /// request of HTTP/1.0 at most one, and its value has only letters, digits and `-._~%!$&'()*+,;=:[]`.
@@ -44,6 +45,7 @@ pub fn read_request<L: Link>(alloc: Global, link: &mut L) -> Result<Head, WireFa
     ensures cause { Counts (L.Intake.faults link.old) (L.Intake.faults link.new) result }
     ensures apart { L.Intake.aside link.new ≡ L.Intake.aside link.old }
     ensures outgoing { (L.held link.new ≡ L.held link.old) × (L.Sink.faults link.new ≡ L.Sink.faults link.old) }
+    ensures sparing { ReadsSparingly HoldsRequest [] (L.Intake.pieces link.old) (L.Intake.pieces link.new) }
 {
     let mut feed = Feed::new(alloc);
     let asked = take_request(alloc, link, &mut feed);
@@ -74,6 +76,7 @@ fn take_request<R: Intake>(alloc: Global, link: &mut R, feed: &mut Feed) -> Resu
         (told feed.old (R.left link.old)) (told feed.new (R.left link.new)) result }
     ensures cause { Counts (R.faults link.old) (R.faults link.new) result }
     ensures apart { R.aside link.new ≡ R.aside link.old }
+    ensures sparing { ReadsSparingly HoldsRequest feed.old (R.pieces link.old) (R.pieces link.new) }
 {
     loop {
         match find_request(alloc, feed.came())? {

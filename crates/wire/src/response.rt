@@ -1,10 +1,11 @@
 //! Responses.
 
-ghost use Rattle.std.specs.Prelude.{◌≡◌, ◌≤◌, [], IfOk, IfSome, length};
+ghost use Rattle.std.specs.Prelude.{◌≡◌, ◌≤◌, [], Some, IfOk, IfSome, OnOk, length};
 ghost use Rattle.httparse.specs.Grammar.{IsResponseHead, print_response};
 ghost use Rattle.httparse.specs.Spans.{IsResponseWithin, IsResponseOf};
-ghost use Rattle.wire.specs.Parts.{Finds, Takes};
+ghost use Rattle.wire.specs.Parts.{Finds, HasOne, Takes};
 ghost use Rattle.wire.specs.Responses.{is_interim, AnswersResponse, PassesHead};
+ghost use Rattle.wire.specs.Sparing.{HoldsBody, HoldsResponse, ReadsSparingly, OfRead};
 ghost use Rattle.wire.specs.Steps.{SaysResponse, AnswersBody};
 ghost use Rattle.wire.specs.LinkTold.{told, Counts};
 ghost use Rattle.wire.specs.declared.framing.Framing.TheVariants.{Chunked, Length, ToEnd};
@@ -41,11 +42,16 @@ const OK: u16 = 200;
 
 /// Reads a response. The body is read for the status 200 alone. An interim response (100 to 199) is no
 /// message.
+///
+/// Once the whole response has come no read is made, so a peer that keeps its link open isn't waited for: a
+/// head of another status than 200 is whole alone, and a body by its framing, which is never where the end
+/// of the connection ends it.
 pub fn read_response<L: Link>(alloc: Global, link: &mut L) -> Result<Reply, WireFault>
     ensures answers { IfSome (L.left link.old) (λ bytes. AnswersResponse bytes result) }
     ensures cause { Counts (L.Intake.faults link.old) (L.Intake.faults link.new) result }
     ensures apart { L.Intake.aside link.new ≡ L.Intake.aside link.old }
     ensures outgoing { (L.held link.new ≡ L.held link.old) × (L.Sink.faults link.new ≡ L.Sink.faults link.old) }
+    ensures sparing { ReadsSparingly HoldsResponse [] (L.Intake.pieces link.old) (L.Intake.pieces link.new) }
 {
     let mut feed = Feed::new(alloc);
     let reply = read_into(alloc, link, &mut feed);
@@ -58,6 +64,7 @@ fn read_into<R: Intake>(alloc: Global, link: &mut R, feed: &mut Feed) -> Result<
     ensures answers { IfSome (told feed.old (R.left link.old)) (λ bytes. AnswersResponse bytes result) }
     ensures cause { Counts (R.faults link.old) (R.faults link.new) result }
     ensures apart { R.aside link.new ≡ R.aside link.old }
+    ensures sparing { ReadsSparingly HoldsResponse feed.old (R.pieces link.old) (R.pieces link.new) }
 {
     let start = take_start(link, feed)?;
     if is_interim(start.status) {
@@ -103,6 +110,7 @@ fn take_body<R: Intake>(
     ensures answers { IfSome (told feed.old (R.left link.old)) (λ bytes. AnswersBody framing bytes body.new.items result) }
     ensures cause { Counts (R.faults link.old) (R.faults link.new) result }
     ensures apart { R.aside link.new ≡ R.aside link.old }
+    ensures sparing { ReadsSparingly (HoldsBody (Some framing)) feed.old (R.pieces link.old) (R.pieces link.new) }
 {
     match framing {
         Framing::Chunked => take_chunked(link, feed, body),
@@ -121,6 +129,7 @@ fn take_chunked<R: Intake>(
     ensures answers { IfSome (told feed.old (R.left link.old)) (λ bytes. AnswersBody Chunked bytes body.new.items result) }
     ensures cause { Counts (R.faults link.old) (R.faults link.new) result }
     ensures apart { R.aside link.new ≡ R.aside link.old }
+    ensures sparing { ReadsSparingly (HoldsBody (Some Chunked)) feed.old (R.pieces link.old) (R.pieces link.new) }
 {
     take_chunks(link, feed, body)?;
     take_trailers(link, feed)?;
@@ -138,6 +147,7 @@ fn take_counted<R: Intake>(
     ensures answers { IfSome (told feed.old (R.left link.old)) (λ bytes. AnswersBody (Length count) bytes body.new.items result) }
     ensures cause { Counts (R.faults link.old) (R.faults link.new) result }
     ensures apart { R.aside link.new ≡ R.aside link.old }
+    ensures sparing { ReadsSparingly (HoldsBody (Some (Length count))) feed.old (R.pieces link.old) (R.pieces link.new) }
 {
     if count > MAX_BODY as u64 {
         return Err(WireFault::TooLong { limit: MAX_BODY });
@@ -152,6 +162,7 @@ fn take_rest<R: Intake>(link: &mut R, feed: &mut Feed, body: &mut Vec<u8>) -> Re
     ensures answers { IfSome (told feed.old (R.left link.old)) (λ bytes. AnswersBody ToEnd bytes body.new.items result) }
     ensures cause { Counts (R.faults link.old) (R.faults link.new) result }
     ensures apart { R.aside link.new ≡ R.aside link.old }
+    ensures sparing { ReadsSparingly (HoldsBody (Some ToEnd)) feed.old (R.pieces link.old) (R.pieces link.new) }
 {
     while body.len() <= MAX_BODY as usize {
         let most = MAX_BODY as usize + 1 - body.len();
@@ -168,6 +179,8 @@ fn take_start<R: Intake>(link: &mut R, feed: &mut Feed) -> Result<Start, WireFau
         (told feed.old (R.left link.old)) (told feed.new (R.left link.new)) result }
     ensures cause { Counts (R.faults link.old) (R.faults link.new) result }
     ensures apart { R.aside link.new ≡ R.aside link.old }
+    ensures sparing { ReadsSparingly (HasOne IsResponseHead print_response) feed.old (R.pieces link.old) (R.pieces link.new) }
+    ensures came { OnOk result (OfRead (λ all rest. Takes IsResponseHead print_response SaysResponse PassesHead all rest result) feed.old feed.new (R.pieces link.old) (R.pieces link.new)) }
 {
     loop {
         match find_start(feed.came())? {

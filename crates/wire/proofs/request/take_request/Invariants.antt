@@ -1,12 +1,15 @@
 use Rattle.std.proofs.Common.{◌≡◌, ◌-◌, length}
+use Rattle.wire.specs.Sparing.{HoldsRequest, ReadsSparingly, GrewBy}
 use Rattle.wire.specs.LinkTold.{SameTold}
 use Rattle.wire.proofs.request.take_request.Given as goal
 
--- nothing was taken yet, and no read failed
+-- nothing was taken yet, no read failed, and what was read was wanted
 abbrev pub invariant-loop-found : goal.invariant-loop-found
 invariant-loop-found g l =
     SameTold l.fn.feed (g.R.Intake.left l.fn.link) l.feed (g.R.Intake.left l.link)
     × (g.R.Intake.faults l.link ≡ g.R.Intake.faults l.fn.link) × (g.R.Intake.aside l.link ≡ g.R.Intake.aside l.fn.link)
+    × ReadsSparingly HoldsRequest l.fn.feed (g.R.Intake.pieces l.fn.link) (g.R.Intake.pieces l.link)
+    × GrewBy l.fn.feed l.feed (g.R.Intake.pieces l.fn.link) (g.R.Intake.pieces l.link)
 
 abbrev pub decreases-loop-found : goal.decreases-loop-found
 decreases-loop-found g l = 16385 - length l.feed
