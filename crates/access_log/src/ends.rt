@@ -1,6 +1,6 @@
 //! How far the lists are read.
 
-ghost use Rattle.std.specs.Prelude.{◌≡◌, ◌<◌, ◌≤◌, ◌-◌, ◌^◌, ℕ, List, [], ◌∷◌, ◌++◌};
+ghost use Rattle.std.specs.Prelude.{◌<◌, ◌≤◌, ◌-◌, ◌^◌, ℕ, List, [], ◌∷◌, ◌++◌};
 ghost use Rattle.std.specs.List.{slice_index_or};
 ghost use Rattle.topk_theory.specs.declared.access.Access.{Access as Made};
 ghost use Rattle.topk_theory.specs.Transcript.{list_of};

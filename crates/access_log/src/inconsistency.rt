@@ -1,6 +1,6 @@
 //! The first kind of inconsistency of one access more.
 
-ghost use Rattle.std.specs.Prelude.{◌≡◌, ◌<◌, ◌≤◌, ◌&&◌, ℕ, List, length, is_none, nat_le, nat_eq, position, IfSome};
+ghost use Rattle.std.specs.Prelude.{◌≡◌, ◌<◌, ◌≤◌, ◌&&◌, List, length, is_none, nat_le, nat_eq, position, IfSome};
 ghost use Rattle.topk_theory.specs.declared.access.Access.{Access as Made};
 ghost use Rattle.topk_theory.specs.Transcript.{object_of, named_objects};
 ghost use Rattle.topk_theory.specs.Consistent.{SomeAgrees};

@@ -5,7 +5,7 @@ ghost use Rattle.topk_theory.specs.declared.access.Access.{Access as Made};
 ghost use Rattle.topk_theory.specs.Transcript.{is_sorted, list_of, object_of, named_objects, seen_objects};
 ghost use Rattle.topk_theory.specs.Bounds.{known_grade};
 ghost use Rattle.topk_theory.specs.Consistent.{SomeAgrees};
-ghost use Rattle.access_log.specs.RecordsKept.{AreRecords, AreAhead, HaveRoom, is_read};
+ghost use Rattle.access_log.specs.RecordsKept.{AreRecords, is_read};
 ghost use Rattle.access_log.specs.Objects.{AreObjects, HasRoom, IsNoted, FitsAccess, IsPlaced};
 
 use super::Memory;

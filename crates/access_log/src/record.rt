@@ -2,7 +2,7 @@
 
 ghost use Rattle.std.specs.Prelude.{◌≡◌, ◌<◌, ℕ, List, [], ◌∷◌, ◌++◌, length};
 ghost use Rattle.topk_theory.specs.declared.access.Access.{Access as Made};
-ghost use Rattle.topk_theory.specs.Transcript.{list_of, object_of, named_objects, seen_objects};
+ghost use Rattle.topk_theory.specs.Transcript.{list_of, object_of, seen_objects};
 ghost use Rattle.topk_theory.specs.Consistent.{SomeAgrees};
 ghost use Rattle.access_log.specs.RecordsKept.{IsRecordOf};
 

@@ -21,7 +21,7 @@ use Rattle.fetcher.specs.Serving.{IsServed}
 use Rattle.fetcher.proofs.ServeLaws.{served_none}
 use Rattle.batch_result.proofs.Places.{stands_at, same_at, map_at}
 use Rattle.batch_run.specs.declared.work.Worker.{Worker}
-use Rattle.batch_run.specs.declared.hands.Hand.{Hand}
+use Rattle.keyed_lock.specs.declared.hands.Hand.{Hand}
 use Rattle.fetcher.specs.declared.posts.Posts.{Posts}
 use Rattle.batch_run.specs.Working.{IsAtWork, Worked, AllWorked}
 use Rattle.batch_run.specs.Slots.{state_of, HasFeeder, Fetches, AllFetch}
@@ -80,20 +80,20 @@ spared_back pool readies before lent after now same s back at =
     subst (AllWorked pool (length before) readies before) (sym (back t.size)) (spared_worked pool (length before) readies before after t at)
 
 module _ {S : Type 0} where
-  pub hands_at_work : (pool : List TableId) (workers : ℕ) (readies : List Ready) (before : List Worker) (hands : List (Hand S))
-      → map (λ (hand : Hand S). hand.worker) hands ≡ before → All (IsAtWork pool workers readies) before
-      → All (λ (hand : Hand S). IsAtWork pool workers readies hand.worker) hands
+  pub hands_at_work : (pool : List TableId) (workers : ℕ) (readies : List Ready) (before : List Worker) (hands : List (Hand Worker (Slot S) (Began S)))
+      → map (λ (hand : Hand Worker (Slot S) (Began S)). hand.worker) hands ≡ before → All (IsAtWork pool workers readies) before
+      → All (λ (hand : Hand Worker (Slot S) (Began S)). IsAtWork pool workers readies hand.worker) hands
   hands_at_work pool workers readies before hands are at i d l =
-      subst (IsAtWork pool workers readies) (map_at (λ (hand : Hand S). hand.worker) hands i d d.worker l)
+      subst (IsAtWork pool workers readies) (map_at (λ (hand : Hand Worker (Slot S) (Began S)). hand.worker) hands i d d.worker l)
       (subst (λ (ws : List Worker). IsAtWork pool workers readies (slice_index_or ws i d.worker)) (sym are)
-      (at i d.worker (let e : length before ≡ length hands = sym (ap length are) ∙ length-map hands (λ (hand : Hand S). hand.worker) in omega (arith, e, l))))
+      (at i d.worker (let e : length before ≡ length hands = sym (ap length are) ∙ length-map hands (λ (hand : Hand Worker (Slot S) (Began S)). hand.worker) in omega (arith, e, l))))
 
-  pub hands_worked : (pool : List TableId) (workers : ℕ) (readies : List Ready) (before after : List Worker) (hands left : List (Hand S))
-      → map (λ (hand : Hand S). hand.worker) hands ≡ before → after ≡ map (λ (hand : Hand S). hand.worker) left
+  pub hands_worked : (pool : List TableId) (workers : ℕ) (readies : List Ready) (before after : List Worker) (hands left : List (Hand Worker (Slot S) (Began S)))
+      → map (λ (hand : Hand Worker (Slot S) (Began S)). hand.worker) hands ≡ before → after ≡ map (λ (hand : Hand Worker (Slot S) (Began S)). hand.worker) left
       → AllHands pool workers readies hands left → AllWorked pool workers readies before after
   hands_worked pool workers readies before after hands left were are all =
-      let long : length before ≡ length hands = sym (ap length were) ∙ length-map hands (λ (hand : Hand S). hand.worker) in
-      let now : length after ≡ length left = ap length are ∙ length-map left (λ (hand : Hand S). hand.worker) in
+      let long : length before ≡ length hands = sym (ap length were) ∙ length-map hands (λ (hand : Hand Worker (Slot S) (Began S)). hand.worker) in
+      let now : length after ≡ length left = ap length are ∙ length-map left (λ (hand : Hand Worker (Slot S) (Began S)). hand.worker) in
       let size = all.size in
       record {
         size = omega (arith, long, now, size);
@@ -103,43 +103,28 @@ module _ {S : Type 0} where
             let h = (stands_at hands i within).item in
             subst (λ (z : Worker × Worker). Worked pool workers readies z.0 z.1)
             (λ k. (
-              (sym (map_at (λ (hand : Hand S). hand.worker) hands i h d within) ∙ ap (λ (ws : List Worker). slice_index_or ws i d) were) k,
-              (sym (map_at (λ (hand : Hand S). hand.worker) left i h d there) ∙ ap (λ (ws : List Worker). slice_index_or ws i d) (sym are)) k,
+              (sym (map_at (λ (hand : Hand Worker (Slot S) (Began S)). hand.worker) hands i h d within) ∙ ap (λ (ws : List Worker). slice_index_or ws i d) were) k,
+              (sym (map_at (λ (hand : Hand Worker (Slot S) (Began S)). hand.worker) left i h d there) ∙ ap (λ (ws : List Worker). slice_index_or ws i d) (sym are)) k,
             ))
             (all.worked i h within);
       }
 
   -- workers that were given passes begin
-  pub hands_begin : (pool : List TableId) (readies : List Ready) (before : List Worker) (hands : List (Hand S))
-      → map (λ (hand : Hand S). hand.worker) hands ≡ before → All (IsAtWork pool (length before) readies) before
-      → All (λ (hand : Hand S). IsAtWork pool (length hands) readies hand.worker) hands
+  pub hands_begin : (pool : List TableId) (readies : List Ready) (before : List Worker) (hands : List (Hand Worker (Slot S) (Began S)))
+      → map (λ (hand : Hand Worker (Slot S) (Began S)). hand.worker) hands ≡ before → All (IsAtWork pool (length before) readies) before
+      → All (λ (hand : Hand Worker (Slot S) (Began S)). IsAtWork pool (length hands) readies hand.worker) hands
   hands_begin pool readies before hands are at =
-      let long : length before ≡ length hands = sym (ap length are) ∙ length-map hands (λ (hand : Hand S). hand.worker) in
-      subst (λ (n : ℕ). All (λ (hand : Hand S). IsAtWork pool n readies hand.worker) hands) long
+      let long : length before ≡ length hands = sym (ap length are) ∙ length-map hands (λ (hand : Hand Worker (Slot S) (Began S)). hand.worker) in
+      subst (λ (n : ℕ). All (λ (hand : Hand Worker (Slot S) (Began S)). IsAtWork pool n readies hand.worker) hands) long
       (hands_at_work pool (length before) readies before hands are at)
 
   -- and have worked once they gave their passes back
-  pub hands_end : (pool : List TableId) (readies : List Ready) (before after : List Worker) (hands left : List (Hand S))
-      → map (λ (hand : Hand S). hand.worker) hands ≡ before → after ≡ map (λ (hand : Hand S). hand.worker) left
+  pub hands_end : (pool : List TableId) (readies : List Ready) (before after : List Worker) (hands left : List (Hand Worker (Slot S) (Began S)))
+      → map (λ (hand : Hand Worker (Slot S) (Began S)). hand.worker) hands ≡ before → after ≡ map (λ (hand : Hand Worker (Slot S) (Began S)). hand.worker) left
       → AllHands pool (length hands) readies hands left → AllWorked pool (length before) readies before after
   hands_end pool readies before after hands left were are all =
-      let long : length before ≡ length hands = sym (ap length were) ∙ length-map hands (λ (hand : Hand S). hand.worker) in
+      let long : length before ≡ length hands = sym (ap length were) ∙ length-map hands (λ (hand : Hand Worker (Slot S) (Began S)). hand.worker) in
       subst (λ (n : ℕ). AllWorked pool n readies before after) (sym long) (hands_worked pool (length hands) readies before after hands left were are all)
-
-  -- the last of some hands that are left, and the others
-  pub hand_taken : (share : TableId × Hold (Began S)) (hands left : List (Hand S)) (hand : Hand S) → hands ≡ left ++ hand ∷ []
-      → All (λ (h : Hand S). h.pass ≡ share) hands → (hand.pass ≡ share) × All (λ (h : Hand S). h.pass ≡ share) left
-  hand_taken share hands left hand last all =
-      let both = All-pop (λ (h : Hand S). h.pass ≡ share) hands left (Some hand) last all in
-      (both.1, both.0)
-
-  pub workers_back : (hands left : List (Hand S)) (hand : Hand S) (workers now whole : List Worker) → hands ≡ left ++ hand ∷ []
-      → now ≡ workers ++ hand.worker ∷ [] → workers ++ map (λ (h : Hand S). h.worker) (reverse hands) ≡ whole
-      → now ++ map (λ (h : Hand S). h.worker) (reverse left) ≡ whole
-  workers_back hands left hand workers now whole last push was =
-      ap (λ (ws : List Worker). ws ++ map (λ (h : Hand S). h.worker) (reverse left)) push
-      ∙ (append_assoc workers (hand.worker ∷ []) (map (λ (h : Hand S). h.worker) (reverse left))
-      ∙ (ap (λ (hs : List (Hand S)). workers ++ map (λ (h : Hand S). h.worker) hs) (sym (ap reverse last ∙ reverse-append left (hand ∷ []))) ∙ was))
 
 module _ {S : Type 0} (list : S → Option (List Row)) (counts : S → Counts) (calls : S → Option (List Call)) (at_hand : S → ℕ) (states : S → Option ℕ) where
   -- what was served at a slot is what a fetcher does

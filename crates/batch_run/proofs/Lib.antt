@@ -6,8 +6,7 @@ pub mod ShareLaws
 pub mod Picks
 pub mod Zips
 pub mod WorkLaws
--- Lemmas on passes to the posts, and on who has them.
-pub mod PassLaws
+-- Lemmas on who has passes to the posts.
 pub mod HandLaws
 -- Lemmas on a crew: its workers, what the fetchers did of the slots, and passes that are joined.
 pub mod CrewLaws

@@ -15,7 +15,7 @@ mod sides;
 mod work;
 
 pub use batch_result::{Batch, Settings, Use};
-pub use hands::{Hand, Hands};
+pub use hands::Hands;
 pub use hire::Crew;
 pub use joining::rejoin;
 pub use lending::{lend, take_back};

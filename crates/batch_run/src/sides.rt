@@ -3,16 +3,17 @@
 ghost use Rattle.std.specs.Prelude.{◌≡◌, ◌≤◌, ◌<◌, ◌^◌, All, length, vec_len};
 ghost use Rattle.limits.specs.Ranges.{AreSettings};
 ghost use Rattle.fetcher.specs.Metering.{nothing};
-ghost use Rattle.fetcher.specs.Posting.{ArePosts, share_of};
+ghost use Rattle.keyed_lock.specs.Hold.{share_of};
+ghost use Rattle.fetcher.specs.Posting.{ArePosts};
 ghost use Rattle.batch_run.specs.Working.{IsAtWork, AllWorked};
 ghost use Rattle.batch_run.specs.Slots.{HasFeeder, AllFetch};
 ghost use Rattle.batch_run.specs.Handing.{AllHands, AreSpared};
 
-use super::hands::{Hand, Hands, hand_in, hand_out, join_all, make_room, split_all};
+use super::hands::{Hands, make_room};
 use super::work::{Worker, work};
 use batch_result::Settings;
 use fetcher::{Posts, Slot, serve_loop};
-use keyed_lock::Pass;
+use keyed_lock::{Hand, Pass};
 use query_core::Ready;
 use source_api::Source;
 use source_pool::Pool;
@@ -52,7 +53,7 @@ fn work_all<W: Threads + Wait + Sync, S: Source>(
     alloc: Global,
     pool: &Pool,
     posts: &Posts<S>,
-    hands: &mut [Hand<S>],
+    hands: &mut [Hand<Worker, Slot<S>>],
     queries: &[Ready],
 )
     requires posts { ArePosts posts.now pool.now }
@@ -66,7 +67,7 @@ fn work_all<W: Threads + Wait + Sync, S: Source>(
         rt,
         hands,
         threads,
-        &|_, hand: &mut Hand<S>|
+        &|_, hand: &mut Hand<Worker, Slot<S>>|
             requires { ArePosts posts.now pool.now × IsAtWork pool.now count queries.now hand.now.worker × (hand.now.pass ≡ share_of posts.now.lock 1) }
         { work(rt, alloc, pool, posts, hand, queries, count) },
     );
@@ -142,11 +143,12 @@ pub fn run_sides<W: Threads + Wait + Sync, S: Source>(
     match Posts::open(alloc, pool, slots, settings.page, settings.ahead) {
         Some((posts, mut pass)) => {
             let sources = posts.bells.len();
-            hand_out(&posts, &mut pass, workers, &mut hands.workers);
-            split_all(&posts, &mut pass, &mut hands.fetchers, sources);
+            let lock = &posts.lock;
+            lock.hand_out(&mut pass, workers, &mut hands.workers);
+            lock.split_all(&mut pass, &mut hands.fetchers, sources);
             run_posts(rt, alloc, pool, &posts, &mut hands, queries);
-            hand_in(&posts, &mut pass, &mut hands.workers, workers);
-            join_all(&posts, &mut pass, &mut hands.fetchers);
+            lock.hand_in(&mut pass, &mut hands.workers, workers);
+            lock.join_all(&mut pass, &mut hands.fetchers);
             posts.close(pass, slots);
         }
         None => spare(workers),

@@ -2,15 +2,15 @@
 
 ghost use Rattle.std.specs.Prelude.{◌≡◌, ◌<◌, length};
 ghost use Rattle.source_pool.specs.Passes.{IsPassOf};
-ghost use Rattle.fetcher.specs.Posting.{ArePosts, MayServe, share_of};
+ghost use Rattle.keyed_lock.specs.Hold.{share_of};
+ghost use Rattle.fetcher.specs.Posting.{ArePosts, MayServe};
 ghost use Rattle.query_core.specs.Ready.{IsReady};
 ghost use Rattle.query_run.specs.Serving.{ServesAll};
 ghost use Rattle.query_run.specs.Advancing.{WaitsForNothing, HasSourcesIn};
 ghost use Rattle.batch_run.specs.Working.{IsAtWork, RanOne, Worked};
 
-use super::hands::Hand;
 use fetcher::{Posts, Slot, serve_or_wait};
-use keyed_lock::Pass;
+use keyed_lock::{Hand, Pass};
 use query_core::Ready;
 use query_run::{Ended, run_query_by};
 use source_api::Source;
@@ -108,7 +108,7 @@ pub(crate) fn work<W: Wait, S: Source>(
     alloc: Global,
     pool: &Pool,
     posts: &Posts<S>,
-    hand: &mut Hand<S>,
+    hand: &mut Hand<Worker, Slot<S>>,
     queries: &[Ready],
     workers: usize,
 )

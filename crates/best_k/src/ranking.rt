@@ -1,7 +1,6 @@
 //! The ranks of objects by place, parted into the first k of them and the others.
 
-ghost use Rattle.std.specs.Prelude.{◌≡◌, ◌≤◌, ◌<◌, ℕ, Some, None, length, replicate, slice_set, is_some, IfOk, MatchOption};
-ghost use Rattle.indexed_heap.specs.Ranks.{rank_at};
+ghost use Rattle.std.specs.Prelude.{◌≡◌, ◌≤◌, ◌<◌, ℕ, Some, None, length, replicate, slice_set, IfOk, MatchOption};
 ghost use Rattle.best_k.specs.Halves.{IsHalved, IsHalvedBut, IsLast, HasFewer, joined};
 
 use super::Memory;

@@ -1,6 +1,6 @@
 //! Taking the sources that are wanted, and asking them for their sizes side by side.
 
-ghost use Rattle.std.specs.Prelude.{◌≡◌, ◌<◌, true, Some, [], ℕ, List, OnErr, OnOk, IfOk, length, take};
+ghost use Rattle.std.specs.Prelude.{◌≡◌, ◌<◌, true, Some, [], ℕ, List, OnErr, OnOk, IfOk, length};
 ghost use Rattle.source_api.specs.Places.{CountsTakes, SameAtEach, SameElsewhere};
 ghost use Rattle.catalog_open.specs.Entries.{entry_at};
 ghost use Rattle.catalog_open.specs.Openings.{AsksEachAtMostOnce, AsksEachOnce};

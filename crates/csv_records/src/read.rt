@@ -1,8 +1,7 @@
 //! Reading a text record by record.
 
-ghost use Rattle.std.specs.Prelude.{◌≡◌, ◌∷◌, ◌++◌, [], ℕ, List, OnOk};
+ghost use Rattle.std.specs.Prelude.{◌∷◌, ◌++◌, [], ℕ, List, OnOk};
 ghost use Rattle.csv.specs.Records.{fields_of};
-ghost use Rattle.csv.specs.Reading.{default_config};
 ghost use Rattle.csv_records.specs.Records.{IsAtStart, records_from_start, records_of};
 
 use super::Memory;

@@ -27,10 +27,6 @@ pub record MayServe {S : Type 0} (posts : Posts S) (pool : List TableId) (pass :
   pub own : IsPassOf posts.lock pass
   pub rests : pass.1.held ≡ None
 
--- a pass of a lock that has so many parts, and no value
-abbrev pub share_of : {K : Type 0} → Lock K → ℕ → TableId × Hold K
-share_of lock parts = (lock.id, record { key = Some lock.key; parts = parts; held = None })
-
 module _ {S : Type 0} (list : S → Option (List Row)) (counts : S → Counts) (calls : S → Option (List Call))
     (at_hand : S → ℕ) (states : S → Option ℕ) where
   -- turns were taken at slots, which stay at their places; of slots and themselves: none was taken yet

@@ -1,8 +1,8 @@
 //! The slots of all sources while a run goes on, each at one thread at a time.
 
 ghost use Rattle.std.specs.Prelude.{◌≡◌, ◌<◌, ◌≤◌, ◌^◌, [], IfOk, IfSome, IfNone, length, vec_len, vec_capacity};
-ghost use Rattle.keyed_lock.specs.Hold.{all_parts};
-ghost use Rattle.fetcher.specs.Posting.{ArePosts, AreServed, MayServe, share_of};
+ghost use Rattle.keyed_lock.specs.Hold.{all_parts, share_of};
+ghost use Rattle.fetcher.specs.Posting.{ArePosts, AreServed, MayServe};
 
 use super::post::{Began, serve_turn};
 use super::slot::Slot;

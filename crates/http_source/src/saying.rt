@@ -1,6 +1,6 @@
 //! What bodies say, as answers to calls.
 
-ghost use Rattle.std.specs.Prelude.{◌≡◌, IfErr, OnErr};
+ghost use Rattle.std.specs.Prelude.{◌≡◌, OnErr};
 ghost use Rattle.page_json.specs.Bodies.{IsSizeBody, IsPageBody, IsGradeBody};
 ghost use Rattle.http_source.specs.Answers.{SizeBy, PageBy, GradeBy};
 ghost use Rattle.http_source.specs.Asking.{IsNoFault, trouble_in};

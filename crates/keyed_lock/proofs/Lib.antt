@@ -1,3 +1,5 @@
 pub mod Places
 mod Keeping
 mod Seating
+mod PassLaws
+mod HandLaws

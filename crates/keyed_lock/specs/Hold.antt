@@ -31,6 +31,10 @@ module _ {K : Type 0} where
   abbrev pub with_parts : ℕ → Hold K → Hold K
   with_parts parts hold = record hold { parts = parts }
 
+  -- a pass of a lock that has so many parts, and no value
+  abbrev pub share_of : Lock K → ℕ → TableId × Hold K
+  share_of lock parts = (lock.id, record { key = Some lock.key; parts = parts; held = None })
+
   -- the first pass with the parts of both
   abbrev pub joined : Hold K → Hold K → Hold K
   joined first second = with_parts (first.parts + second.parts) first

@@ -2,6 +2,7 @@
 #![tactic(auto)]
 
 mod filling;
+mod hands;
 mod hold;
 mod kept;
 mod laws;
@@ -11,6 +12,7 @@ mod rule;
 mod seat;
 mod view;
 
+pub use hands::Hand;
 pub use hold::Hold;
 pub use kept::Kept;
 pub use laws::parts_add_up;

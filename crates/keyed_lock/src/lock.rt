@@ -1,4 +1,4 @@
-ghost use Rattle.std.specs.Prelude.{◌≡◌, ◌-◌, ◌<◌, ◌≤◌, ◌^◌, [], ℕ, List, Some, None, map, length, IfOk, OnOk, OnErr, IfSome, IfNone, vec_len, vec_capacity, replicate};
+ghost use Rattle.std.specs.Prelude.{◌≡◌, ◌-◌, ◌<◌, ◌≤◌, ◌^◌, [], Some, None, map, length, IfOk, OnOk, OnErr, IfSome, IfNone, vec_len, vec_capacity, replicate};
 ghost use Rattle.std.specs.Mem.Slots.{slots_items, slots_len};
 ghost use Rattle.keyed_lock.specs.Rule.{HoldsAll};
 ghost use Rattle.keyed_lock.specs.Hold.{all_parts, IsPassOf, KeepAll, opened, holding, with_parts, joined};

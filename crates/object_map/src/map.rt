@@ -1,6 +1,6 @@
 //! The map from objects to their values.
 
-ghost use Rattle.std.specs.Prelude.{◌≡◌, ◌<◌, ◌≤◌, ◌+◌, ◌==◌, ℕ, Some, None, true, nat_eq, slice_set, slice_index_or, length, if◌then◌else◌, IfOk, OnOk, OnErr, IsOk};
+ghost use Rattle.std.specs.Prelude.{◌≡◌, ◌<◌, ◌≤◌, ◌+◌, ℕ, Some, None, nat_eq, slice_set, slice_index_or, length, IfOk, OnOk, OnErr, IsOk};
 ghost use Rattle.std.specs.Map.{lookup};
 ghost use Rattle.std.specs.HashMap.{spare};
 ghost use Rattle.object_map.specs.Values.{value_of, IsSame, IsSet};

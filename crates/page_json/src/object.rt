@@ -1,6 +1,6 @@
 //! The object of a body: a key with what it says, and a version.
 
-ghost use Rattle.std.specs.Prelude.{◌≡◌, ◌≤◌, false, codes, Some, None, Err, IfOk, IsUtf8};
+ghost use Rattle.std.specs.Prelude.{◌≡◌, ◌≤◌, false, Some, None, Err, IfOk, IsUtf8};
 ghost use Rattle.serde_json.specs.Data.{depth};
 ghost use Rattle.serde_json.specs.Read.{read, max_depth};
 ghost use Rattle.serde_json.specs.View.{view};

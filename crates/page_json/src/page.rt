@@ -1,6 +1,6 @@
 //! The body that says a page of a list's rows.
 
-ghost use Rattle.std.specs.Prelude.{◌≡◌, ◌≤◌, ℕ, List, Some, None, Err, IfOk, OnOk, length, codes, option_and_then};
+ghost use Rattle.std.specs.Prelude.{◌≡◌, ◌≤◌, List, Some, None, Err, IfOk, OnOk, length, codes, option_and_then};
 ghost use Rattle.limits.specs.declared.TheConstants.{MAX_PAGE};
 ghost use Rattle.ranked_list.specs.declared.row.Row.{Row};
 ghost use Rattle.serde_json.specs.Find.{get};

@@ -1,6 +1,6 @@
 //! Reading of query lines.
 
-ghost use Rattle.std.specs.Prelude.{◌≡◌, ◌≤◌, ◌<◌, ◌+◌, length, OnOk, IfOk, IfErr, Some, None, Err, take, drop, vec_len};
+ghost use Rattle.std.specs.Prelude.{◌≡◌, ◌≤◌, ◌<◌, ◌+◌, length, OnOk, IfOk, IfErr, Some, None, Err, drop, vec_len};
 ghost use Rattle.query_text.specs.Reading.{Reads, IsReadBack};
 ghost use Rattle.query_text.specs.Words.{is_whole};
 ghost use Rattle.query_text.specs.Draft.{names_of};

@@ -1,7 +1,7 @@
 //! What a source counts.
 
 ghost use Rattle.std.specs.Prelude.{◌≡◌};
-ghost use Rattle.source_api.specs.Counting.{raised, no_counts, troubled, gave_rows, gave_grade, added};
+ghost use Rattle.source_api.specs.Counting.{no_counts, troubled, gave_rows, gave_grade, added};
 
 use super::{FailKind, Trouble};
 

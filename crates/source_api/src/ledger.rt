@@ -52,7 +52,7 @@ pub struct Ledger {
 }
 
 impl Model for Ledger {
-    ghost use Rattle.std.specs.Prelude.{List, map};
+    ghost use Rattle.std.specs.Prelude.{List};
     ghost use Rattle.source_api.specs.Places.{Noted};
 
     ghost Value = { List Noted };

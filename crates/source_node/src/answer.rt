@@ -1,10 +1,7 @@
 //! What a list answers, and how it is written.
 
-ghost use Rattle.std.specs.Prelude.{◌≡◌, ◌≤◌, ◌++◌, [], ℕ, List, Ok, IfOk, IfErr, OnOk, length};
-ghost use Rattle.ranked_list.specs.declared.row.Row.{Row as RowOf};
-ghost use Rattle.source_api.specs.Calls.{Call, with_call};
-ghost use Rattle.source_api.specs.Counting.{NoneFell, gave_rows};
-ghost use Rattle.source_api.specs.Told.{IsPage};
+ghost use Rattle.std.specs.Prelude.{◌≡◌, ◌≤◌, [], Ok, IfOk, IfErr, OnOk};
+ghost use Rattle.source_api.specs.Counting.{NoneFell};
 ghost use Rattle.source_node.specs.Asking.{HasCount};
 ghost use Rattle.source_node.specs.Serving.{seen, GivesPage, GivesRows, StopsRows, Asks, text_of};
 

@@ -1,6 +1,6 @@
 //! One connection of a node.
 
-ghost use Rattle.std.specs.Prelude.{◌≡◌, true, codes, IfOk, Ok, Err, option_copied};
+ghost use Rattle.std.specs.Prelude.{◌≡◌, true, codes, Ok, Err, option_copied};
 ghost use Rattle.std.specs.Str.{bytes_eq};
 ghost use Rattle.std.specs.Option.{unwrap_or};
 ghost use Rattle.std.specs.Result.{result_map_both};

@@ -1,6 +1,6 @@
 //! Closing the locks of several sources.
 
-ghost use Rattle.std.specs.Prelude.{◌≡◌, ◌≤◌, ◌+◌, ◌<◌, ◌^◌, [], vec_len, vec_capacity, true};
+ghost use Rattle.std.specs.Prelude.{◌≡◌, ◌≤◌, ◌+◌, ◌<◌, ◌^◌, [], vec_len, vec_capacity};
 ghost use Rattle.turn_lock.specs.Known.{all_parts};
 ghost use Rattle.source_pool.specs.Holds.{IsFree};
 ghost use Rattle.source_pool.specs.Passes.{IsPassOf, AreFeedersOf};

@@ -4,7 +4,7 @@ ghost use Rattle.std.specs.Prelude.{◌≡◌, ◌≤◌};
 ghost use Rattle.turn_lock.specs.Known.{Follows};
 ghost use Rattle.source_pool.specs.Holds.{IsFree};
 ghost use Rattle.source_pool.specs.Remembering.{nothing};
-ghost use Rattle.source_pool.specs.HoldSharing.{kept_hold, new_hold, joined_hold, added, all_shown};
+ghost use Rattle.source_pool.specs.HoldSharing.{kept_hold, new_hold, joined_hold, all_shown};
 
 use super::hold::{Hold, NO_FAILS, NO_WAITING};
 use super::remembered::Remembered;

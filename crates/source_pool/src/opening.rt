@@ -1,10 +1,7 @@
 //! Opening the locks of several sources.
 
-ghost use Rattle.std.specs.Prelude.{◌≡◌, ◌≤◌, ◌<◌, ◌^◌, ◌∷◌, [], ◌++◌, ℕ, List, length, take, All, IfOk, OnOk, vec_len};
-ghost use Rattle.turn_lock.specs.Known.{all_parts, without, split_off};
-ghost use Rattle.source_pool.specs.Holds.{IsFree};
-ghost use Rattle.source_pool.specs.Passes.{IsPassOf, hold_at, lock_at};
-ghost use Rattle.source_pool.specs.Sharing.{first_hold, first_feed, IsOpened};
+ghost use Rattle.std.specs.Prelude.{◌≡◌, ◌≤◌, ◌<◌, ◌^◌, ◌∷◌, [], ◌++◌, ℕ, List, length, All, IfOk, OnOk, vec_len};
+ghost use Rattle.source_pool.specs.Sharing.{IsOpened};
 ghost use Rattle.source_pool.specs.HoldSharing.{first_known};
 ghost use Rattle.source_pool.specs.Remembering.{nothing};
 ghost use Rattle.source_pool.specs.Rooms.{HasRoom, HasPlace, IsEmpty};

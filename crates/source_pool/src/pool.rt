@@ -1,6 +1,6 @@
 //! Pools.
 
-ghost use Rattle.std.specs.Prelude.{◌≡◌, ◌≤◌, ◌<◌, ◌^◌, length, All, IfOk, OnOk, OnErr, IfSome, IsSomeAnd, Some, None};
+ghost use Rattle.std.specs.Prelude.{◌≡◌, ◌≤◌, ◌<◌, ◌^◌, length, All, IfOk, OnErr, IfSome, IsSomeAnd, Some};
 ghost use Rattle.turn_lock.specs.Facts.{FactsGrow};
 ghost use Rattle.turn_lock.specs.Known.{KnowsOf, HasAll};
 ghost use Rattle.source_state.specs.State.{facts_of};

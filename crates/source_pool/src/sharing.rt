@@ -1,6 +1,6 @@
 //! Splitting and joining what passes hold of several sources.
 
-ghost use Rattle.std.specs.Prelude.{◌≡◌, ◌≤◌, [], All, IfOk, length, vec_len, vec_capacity};
+ghost use Rattle.std.specs.Prelude.{◌≡◌, ◌≤◌, [], All, IfOk, vec_len, vec_capacity};
 ghost use Rattle.source_pool.specs.Passes.{IsPassOf};
 ghost use Rattle.source_pool.specs.Remembering.{nothing};
 ghost use Rattle.source_pool.specs.Sharing.{MaySplit, IsSplit, IsJoined};

@@ -1,8 +1,8 @@
 //! The rows that were kept.
 
-ghost use Rattle.std.specs.Prelude.{◌≡◌, ◌<◌, ◌≤◌, [], ◌∷◌, ◌++◌, length, slice_get, Contains, IfOk, vec_len};
+ghost use Rattle.std.specs.Prelude.{◌≡◌, ◌<◌, ◌≤◌, [], ◌∷◌, ◌++◌, length, slice_get, IfOk};
 ghost use Rattle.std.specs.Option.{option_map};
-ghost use Rattle.ranked_list.specs.Table.{objects, top_grade};
+ghost use Rattle.ranked_list.specs.Table.{top_grade};
 ghost use Rattle.topk_theory.specs.Transcript.{last_grade};
 ghost use Rattle.topk_theory.specs.Bounds.{grade_among};
 ghost use Rattle.source_state.specs.LogKeeping.{RowList};

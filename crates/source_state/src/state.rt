@@ -1,6 +1,6 @@
 //! The state.
 
-ghost use Rattle.std.specs.Prelude.{◌≡◌, ◌<◌, ◌≤◌, [], ◌∷◌, ◌++◌, None, Some, length, slice_get, IfOk, is_some, vec_len, vec_capacity};
+ghost use Rattle.std.specs.Prelude.{◌≡◌, ◌<◌, ◌≤◌, [], ◌∷◌, ◌++◌, None, Some, length, slice_get, IfOk, vec_len, vec_capacity};
 ghost use Rattle.turn_lock.specs.Facts.{FactsGrow};
 ghost use Rattle.source_state.specs.Log.{rows_in, fault_in};
 ghost use Rattle.topk_theory.specs.Bounds.{grade_among};
@@ -120,7 +120,7 @@ fn add_entry(log: &mut Vec<LogEntry>, entry: LogEntry)
 
 impl SourceState {
     ghost use Rattle.source_state.specs.State.{facts_of};
-    ghost use Rattle.source_state.specs.Events.{after, logged, wanted, with_ask, with_rows, paged, failed, moved, row_or, MayCome, MayMove, MayPage, IsApplied, KeepsLog};
+    ghost use Rattle.source_state.specs.Events.{after, logged, wanted, with_ask, with_rows, paged, failed, moved, MayCome, MayMove, MayPage, IsApplied, KeepsLog};
 
     /// The state of the list of this number, which has `count` objects, before any event.
     pub fn open(alloc: Global, list: u32, count: u32) -> Result<SourceState, Memory>

@@ -1,6 +1,6 @@
 //! The combined algorithm of Fagin, Lotem and Naor on a whole table.
 
-ghost use Rattle.std.specs.Prelude.{◌≡◌, ◌≤◌, IfOk, OnOk, map, ◌++◌};
+ghost use Rattle.std.specs.Prelude.{◌≡◌, ◌≤◌, IfOk, OnOk, ◌++◌};
 ghost use Rattle.topk_theory.specs.Threshold.{sorted_block, item_objects};
 ghost use Rattle.topk_theory.specs.Combined.{phase_length, phase_after, finish, ca_run_to, ca_depth, ca_blocks, ca_run, ca_answer};
 ghost use Rattle.monotone_fn.specs.Value.{value};

@@ -6,6 +6,5 @@ pub mod LinksInMemory
 pub mod Links
 pub mod Outside
 pub mod Pieces
-pub mod Reads
 pub mod Sides
 pub mod Whole

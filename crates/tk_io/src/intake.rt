@@ -1,10 +1,10 @@
 //! What bytes are read from.
 
-ghost use Rattle.std.specs.Prelude.{ℕ, ◌≡◌, List, Option, None, take, IfOk, OnErr};
+ghost use Rattle.std.specs.Prelude.{ℕ, ◌≡◌, List, [], ◌∷◌, Option, None, take, IfOk, OnErr};
 ghost use Rattle.std.specs.Io.{ReadsAtMost};
 ghost use Rattle.std.specs.Io.KnownBytes.{ReadConsumes};
+ghost use Rattle.tk_io.specs.Calls.{with_more};
 ghost use Rattle.tk_io.specs.Faults.{HasCause};
-ghost use Rattle.tk_io.specs.Reads.{with_piece};
 ghost use Rattle.tk_io.specs.Sides.{Side, no_side};
 
 use super::Failed;
@@ -31,6 +31,6 @@ pub trait Intake {
         ensures bytes { ReadConsumes (left self.old) (left self.new) result into.new }
         ensures cause { HasCause (faults self.old) (faults self.new) result }
         ensures apart { aside self.new ≡ aside self.old }
-        ensures piece { IfOk result (λ count. pieces self.new ≡ with_piece (take count into.new) (pieces self.old)) }
+        ensures piece { IfOk result (λ count. pieces self.new ≡ with_more (take count into.new ∷ []) (pieces self.old)) }
         ensures unread { OnErr result (pieces self.new ≡ pieces self.old) };
 }

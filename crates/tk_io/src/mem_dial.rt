@@ -1,9 +1,9 @@
 //! A dial that stands in memory.
 
-ghost use Rattle.std.specs.Prelude.{◌≡◌, ◌<◌, ◌≤◌, ◌+◌, ◌∷◌, ◌++◌, ◌-◌, ◌^◌, ◌⊎◌, [], min, Some, None, Contains, IsErr, IfOk, IfSome, OnOk, OnErr, ◌↔◌, All};
+ghost use Rattle.std.specs.Prelude.{◌≡◌, ◌<◌, ◌+◌, ◌∷◌, ◌++◌, ◌-◌, ◌^◌, ◌⊎◌, [], min, Some, None, Contains, IsErr, IfOk, OnErr, ◌↔◌, All};
 ghost use Rattle.tk_io.specs.Faults.{HasCause};
 ghost use Rattle.tk_io.specs.InMemory.{next_call};
-ghost use Rattle.tk_io.specs.Links.{Closed, GivesFirst, IsFresh, ClosesOne, AddsFaults};
+ghost use Rattle.tk_io.specs.Links.{GivesFirst, IsFresh, ClosesOne, AddsFaults};
 ghost use Rattle.tk_io.specs.LinksInMemory.{bytes_to_come, closed_of, failed_call, gave_link, IsUnused};
 
 use super::mem_link::Ended;

@@ -1,9 +1,9 @@
 //! A port that stands in memory.
 
-ghost use Rattle.std.specs.Prelude.{◌≡◌, ◌<◌, ◌∷◌, ◌++◌, ◌-◌, [], Some, None, map, Contains, IsErr, IfOk, IfSome, OnOk, OnErr, ◌↔◌, All};
+ghost use Rattle.std.specs.Prelude.{◌≡◌, ◌<◌, ◌∷◌, ◌++◌, ◌-◌, [], Some, None, Contains, IsErr, IfOk, IfSome, OnOk, OnErr, ◌↔◌, All};
 ghost use Rattle.tk_io.specs.Faults.{HasCause};
 ghost use Rattle.tk_io.specs.InMemory.{next_call};
-ghost use Rattle.tk_io.specs.Links.{Closed, GivesFirst, HasNone, IsFresh, ClosesOne};
+ghost use Rattle.tk_io.specs.Links.{GivesFirst, HasNone, IsFresh, ClosesOne};
 ghost use Rattle.tk_io.specs.LinksInMemory.{bytes_to_come, closed_of, counted_call, failed_call, gave_link, IsUnused};
 
 use super::mem_link::Ended;

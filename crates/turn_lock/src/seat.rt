@@ -1,8 +1,7 @@
 // The moves of a pass on the table of a lock, over the seat that the pass is.
-ghost use Rattle.std.specs.Prelude.{◌≡◌, ℕ, ◌%◌, ◌^◌, ◌<◌, [], ◌∷◌, Some, None, IfSome, IfNone};
+ghost use Rattle.std.specs.Prelude.{◌≡◌, ◌<◌, [], ◌∷◌, Some, None, IfSome, IfNone};
 ghost use Rattle.turn_lock.specs.declared.facts.Facts.{Facts};
 ghost use Rattle.turn_lock.specs.Known.{KnowsOf, Follows, holding, after_turn, without, split_off, joined};
-ghost use Rattle.turn_lock.specs.Rule.{resting};
 ghost use Rattle.turn_lock.specs.Steps.{IsDrawn};
 ghost use Rattle.turn_lock.specs.Seats.{IsSeatOf, IsSameSeat, Rests, InTurn, Waits, Took, MayGive, GivesTurn, Counted, Gave};
 

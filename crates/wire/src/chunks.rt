@@ -1,9 +1,8 @@
 //! Bodies in chunks.
 
-ghost use Rattle.std.specs.Prelude.{◌≡◌, ◌≤◌, [], length, IfOk, OnOk};
+ghost use Rattle.std.specs.Prelude.{◌≡◌, ◌≤◌, [], length, OnOk};
 ghost use Rattle.httparse.specs.Ascii.{crlf_bytes};
 ghost use Rattle.httparse.specs.Grammar.{IsChunkLine, print_chunk_line};
-ghost use Rattle.httparse.specs.Spans.{IsSectionOf};
 ghost use Rattle.wire.specs.Bodies.{AreTrailers, print_trailers, PassesLine, PassesTrailers};
 ghost use Rattle.wire.specs.Parts.{Finds, HasOne, Takes};
 ghost use Rattle.wire.specs.Sparing.{HoldsBytes, HoldsChunk, HoldsChunks, ReadsSparingly, OfRead};

@@ -1,6 +1,6 @@
 //! Responses.
 
-ghost use Rattle.std.specs.Prelude.{◌≡◌, ◌≤◌, [], Some, IfOk, IfSome, OnOk, length};
+ghost use Rattle.std.specs.Prelude.{◌≡◌, ◌≤◌, [], Some, IfSome, OnOk, length};
 ghost use Rattle.httparse.specs.Grammar.{IsResponseHead, print_response};
 ghost use Rattle.httparse.specs.Spans.{IsResponseWithin, IsResponseOf};
 ghost use Rattle.wire.specs.Parts.{Finds, HasOne, Takes};

@@ -4,7 +4,7 @@ ghost use Rattle.std.specs.Prelude.{◌≡◌, ◌≤◌, codes, length, map, op
 ghost use Rattle.std.specs.List.{position, position_or_len};
 ghost use Rattle.std.specs.Str.{bytes_eq};
 ghost use Rattle.std.specs.Char.{to_ascii_lowercase};
-ghost use Rattle.wire.specs.Targets.{shown, ends_authority, is_rooted, behind_scheme, behind_authority, origin_form, rooted, cut_query, parts_of, IsBehind};
+ghost use Rattle.wire.specs.Targets.{shown, ends_authority, is_rooted, behind_scheme, behind_authority, rooted, cut_query, parts_of, IsBehind};
 
 use line_text::cut_at;
 

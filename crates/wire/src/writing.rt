@@ -2,7 +2,6 @@
 
 ghost use Rattle.std.specs.Prelude.{◌≡◌, true, map, IfErr, Some, None, option_copied};
 ghost use Rattle.tk_io.specs.Pieces.{Puts, Writes};
-ghost use Rattle.wire.specs.LinkTold.{Counts};
 ghost use Rattle.wire.specs.Wording.{part_text};
 ghost use Rattle.wire.specs.Writing.{joined, asking_text, request_text, reply_text, reason_of, type_of, allow_line, has_reason};
 ghost use Rattle.wire.specs.declared.fault.WireFault.TheVariants.{LinkFault};

@@ -1,6 +1,6 @@
 use Rattle.std.proofs.Common.{◌≡◌, false, take}
 use Rattle.source_pool.specs.Passes.{IsPassOf}
-use Rattle.fetcher.specs.Posting.{share_of}
+use Rattle.keyed_lock.specs.Hold.{share_of}
 use Rattle.query_run.specs.Advancing.{WaitsForNothing, KnowsAll}
 use Rattle.batch_run.specs.Working.{HasBegun, RanSo}
 use Rattle.batch_run.proofs.work.work.Given as goal

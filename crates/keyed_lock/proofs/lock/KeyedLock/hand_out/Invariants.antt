@@ -1,13 +1,13 @@
 use Rattle.std.proofs.Common.{◌≡◌, ◌≤◌, ◌+◌, ◌-◌, ◌++◌, All, map, vec_len, vec_capacity}
 use Rattle.std.specs.Prelude.{reverse}
-use Rattle.fetcher.specs.Posting.{share_of}
-use Rattle.batch_run.proofs.hands.hand_out.Given as goal
+use Rattle.keyed_lock.specs.Hold.{share_of}
+use Rattle.keyed_lock.proofs.lock.KeyedLock.hand_out.Given as goal
 
 abbrev pub invariant-loop-worker : goal.invariant-loop-worker
 invariant-loop-worker g l = record {
-  pass : l.pass ≡ share_of l.posts.lock (l.fn.pass.1.parts - vec_len l.hands);
+  pass : l.pass ≡ share_of l.self (l.fn.pass.1.parts - vec_len l.hands);
   hands : map (λ hand. hand.worker) l.hands.items ++ reverse l.workers.items ≡ l.fn.workers.items;
-  shares : All (λ hand. hand.pass ≡ share_of l.posts.lock 1) l.hands.items;
+  shares : All (λ hand. hand.pass ≡ share_of l.self 1) l.hands.items;
   many : vec_len l.hands + vec_len l.workers ≡ vec_len l.fn.workers;
   room : vec_len l.fn.workers ≤ vec_capacity l.hands;
   kept : vec_capacity l.workers ≡ vec_capacity l.fn.workers;
