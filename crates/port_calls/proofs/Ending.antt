@@ -20,7 +20,7 @@ use Rattle.port_calls.specs.ServeEnds.{EndsLists, ServeEndsOverCatalog, ServeEnd
 
 -- what is said of links that were served ends so
 pub ends_served : (o : ServeOptions) (text : List ℕ) (catalog : List Entry) (c : Call) (p : Ports) (served : Served) (result : Status)
-    → IsCatalog (records_of text) catalog → EndsLists o.listening.conns catalog c.before.shelf c.after.shelf p served
+    → IsCatalog (records_of text) catalog → EndsLists o.listening catalog c.before.shelf c.after.shelf p served
     → SaysServeEnded c.before.output c.after.output served result → ServeEndsOverCatalog o text c p result
 ends_served o text catalog c p (Ended count) result is ends says = elim says [
   | inl whole ↦ subst (ServeEndsOverCatalog o text c p) (sym whole.0) (count, record { catalog = catalog; is = is; them = ends }, record { held = whole.1; faults = whole.2 })
@@ -29,7 +29,7 @@ ends_served o text catalog c p (Ended count) result is ends says = elim says [
 ends_served o text catalog c p AtFault result is ends says =
     subst (ServeEndsOverCatalog o text c p) (sym says.0) (record { catalog = catalog; is = is; them = ends }, record { held = says.1; faults = says.2 })
 ends_served o text catalog c p NoneLeft result is ends says =
-    subst (ServeEndsOverCatalog o text c p) (sym says.0) (inr (record { catalog = catalog; is = is; borrows = ends }), record { held = says.1; faults = says.2 })
+    subst (ServeEndsOverCatalog o text c p) (sym says.0) (inr (record { catalog = catalog; is = is; borrows = ends.0; port = ends.1 }), record { held = says.1; faults = says.2 })
 
 -- what is said of a text that is no catalog ends so
 ends_no_catalog : (o : ServeOptions) (text said : List ℕ) (c : Call) (p : Ports) (result : Status) → NoCatalog text c p said

@@ -1,5 +1,5 @@
 -- The lists of a catalog that is served, and how serving ends.
-use Rattle.std.proofs.Common.{◌≡◌, ◌≤◌, ◌<◌, ◌+◌, ℕ, zero, suc, Bool, true, false, List, [], ◌∷◌, ◌++◌, Option, Some, Result, Ok, Err, IfOk, All, Contains, length, map, take, reverse, replicate, nat_le, leb-true, leb-false, refl, sym, ap, subst, ◌∙◌, arith}
+use Rattle.std.proofs.Common.{◌≡◌, ◌≤◌, ◌<◌, ◌+◌, ℕ, zero, suc, Bool, true, false, List, [], ◌∷◌, ◌++◌, Option, Some, Result, Ok, Err, IfOk, All, Contains, length, map, take, reverse, replicate, nat_le, leb-true, leb-false, refl, sym, ap, subst, ◌∙◌, inr, arith}
 use Rattle.std.specs.Prelude.{if◌then◌else◌}
 use Rattle.std.proofs.lemmas.Bool.{false≢true}
 use Rattle.std.proofs.lemmas.List.{length-map, take_all}
@@ -25,6 +25,7 @@ use Rattle.query_server.specs.declared.server.Served.TheVariants.{Ended, PortFau
 use Rattle.call_ends.specs.Shelves.{Shelf}
 use Rattle.port_calls.specs.Ports.{Ports}
 use Rattle.port_calls.specs.Opening.{BorrowsSome, BorrowsAll, IsOneOf, entry_of, every, OpensAll}
+use Rattle.command_words.specs.declared.node.Listening.{Listening}
 use Rattle.port_calls.specs.ServeEnds.{EndsLists, ServesPort}
 
 -- each entry of a catalog is marked, and nothing else
@@ -149,11 +150,11 @@ pub borrows_all : (catalog : List Entry) (before mid now : Shelf) (back : List U
 borrows_all catalog before mid now back b once puts =
     record { borrows = b; once = once_back catalog (every catalog) back before.at mid.at now.at once puts }
 
-pub lists_end : (conns : ℕ) (catalog : List Entry) (before now : Shelf) (p : Ports) (served : Served) → BorrowsAll catalog before now
-    → OpensAll catalog before → ServesPort conns p served → p.after.closed ≡ p.before.closed → EndsLists conns catalog before now p served
-lists_end conns catalog before now p (Ended count) b opens serves closed = record { borrows = b; opens = opens; serves = serves; closed = closed }
-lists_end conns catalog before now p AtFault b opens serves closed = record { borrows = b; opens = opens; serves = serves; closed = closed }
-lists_end conns catalog before now p NoMemory b opens serves closed = b.borrows
+pub lists_end : (l : Listening) (catalog : List Entry) (before now : Shelf) (p : Ports) (served : Served) → BorrowsAll catalog before now
+    → OpensAll catalog before → ServesPort l p served → p.after.closed ≡ p.before.closed → EndsLists l catalog before now p served
+lists_end l catalog before now p (Ended count) b opens serves closed = record { borrows = b; opens = opens; serves = serves; closed = closed }
+lists_end l catalog before now p AtFault b opens serves closed = record { borrows = b; opens = opens; serves = serves; closed = closed }
+lists_end l catalog before now p NoMemory b opens serves closed = (b.borrows, inr serves)
 
 mapped_next : (openings : List Opening) (place : ℕ) → place < length openings
     → map entry_of (take (suc place) openings) ≡ map entry_of (take place openings) ++ entry_of (opening_at openings place) ∷ []

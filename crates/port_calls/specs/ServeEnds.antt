@@ -1,10 +1,11 @@
 -- How a server of queries ends, by its status.
-use Rattle.std.specs.Prelude.{◌≡◌, ◌⊎◌, ⊤, ℕ, List}
+use Rattle.std.specs.Prelude.{◌≡◌, ◌⊎◌, ℕ, List}
 use Rattle.tk_io.specs.Faults.{Rose}
 use Rattle.csv_records.specs.Records.{records_of}
 use Rattle.catalog_text.specs.Catalog.{Listed as Entry, IsCatalog}
+use Rattle.command_words.specs.declared.node.Listening.{Listening}
 use Rattle.command_words.specs.declared.serving.ServeOptions.{ServeOptions}
-use Rattle.query_server.specs.Accepting.{TookAll, TookSome}
+use Rattle.query_server.specs.Accepting.{TookAll, TookSome, GaveLinks}
 use Rattle.query_server.specs.declared.server.Served.{Served}
 use Rattle.query_server.specs.declared.server.Served.TheVariants.{Ended, PortFault as AtFault, Memory as NoMemory}
 use Rattle.std.specs.Io.KnownBytes.{Keeps}
@@ -16,44 +17,53 @@ use Rattle.call_ends.specs.declared.status.Status.TheVariants.{Done, BadCatalog,
 use Rattle.catalog_run.specs.RunEnds.{from_shelf}
 use Rattle.port_calls.specs.NodeEnds.{NoCatalog, AskedNothing}
 use Rattle.port_calls.specs.NodeTexts.{served_text}
-use Rattle.port_calls.specs.Ports.{Ports, KeepsPort}
+use Rattle.port_calls.specs.Ports.{Ports, KeepsPort, listening}
 use Rattle.port_calls.specs.Opening.{BorrowsSome, BorrowsAll, OpensAll}
 
--- the port failed to listen: no link was taken
-pub record ServeListenFailed (p : Ports) : Type 0 where
+-- the port failed to listen at this number: it was asked for no link
+pub record ServeListenFailed (number : ℕ) (p : Ports) : Type 0 where
   pub links : p.after.links ≡ p.before.links
   pub rose : Rose p.before.faults p.after.faults
+  pub calls : p.after.calls ≡ (listening number p.before).calls
 
--- so many links of a port were taken to be served, as many as are asked for or as come; or the port failed; want of memory is free
-abbrev pub ServesPort : ℕ → Ports → Served → Type 0
-ServesPort conns p (Ended count) = TookAll conns p.before.links p.after.links p.before.faults p.after.faults count
-ServesPort conns p AtFault = ServeListenFailed p ⊎ TookSome conns p.before.links p.after.links p.before.faults p.after.faults
-ServesPort conns p NoMemory = ⊤
+-- the port was to listen at this number, and then it was asked for links and for nothing else: it gave so many
+abbrev pub ListensFor : ℕ → ℕ → Ports → Type 0
+ListensFor number count p = GaveLinks count (listening number p.before).calls p.after.calls
 
--- the sources of a catalog were taken, which says what became of the lists, and put back, and between the two the port was served; want of memory says
--- nothing of the port
-pub record ServesThem (conns : ℕ) (catalog : List Entry) (before now : Shelf) (p : Ports) (served : Served) : Type 0 where
+-- so many links of a port, which listens at the stated number, were taken to be served, as many as are asked for or as come; or the port failed; how many
+-- were taken before memory was wanted is free
+abbrev pub ServesPort : Listening → Ports → Served → Type 0
+ServesPort l p (Ended count) = TookAll l.conns p.before.links p.after.links p.before.faults p.after.faults count × ListensFor l.at count p
+ServesPort l p AtFault =
+    ServeListenFailed l.at p
+    ⊎ (TookSome l.conns p.before.links p.after.links p.before.faults p.after.faults × ((count : ℕ) × ListensFor l.at count p))
+ServesPort l p NoMemory = (count : ℕ) × ListensFor l.at count p
+
+-- the sources of a catalog were taken, which says what became of the lists, and put back, and between the two the port was served
+pub record ServesThem (l : Listening) (catalog : List Entry) (before now : Shelf) (p : Ports) (served : Served) : Type 0 where
   pub borrows : BorrowsAll catalog before now
   pub opens : OpensAll catalog before
-  pub serves : ServesPort conns p served
+  pub serves : ServesPort l p served
   pub closed : p.after.closed ≡ p.before.closed
 
-abbrev pub EndsLists : ℕ → List Entry → Shelf → Shelf → Ports → Served → Type 0
-EndsLists conns catalog before now p (Ended count) = ServesThem conns catalog before now p (Ended count)
-EndsLists conns catalog before now p AtFault = ServesThem conns catalog before now p AtFault
-EndsLists conns catalog before now p NoMemory = BorrowsSome catalog before now
+-- the same; where memory was wanted some sources may not have been taken, and the port may have been left as it was
+abbrev pub EndsLists : Listening → List Entry → Shelf → Shelf → Ports → Served → Type 0
+EndsLists l catalog before now p (Ended count) = ServesThem l catalog before now p (Ended count)
+EndsLists l catalog before now p AtFault = ServesThem l catalog before now p AtFault
+EndsLists l catalog before now p NoMemory = BorrowsSome catalog before now × (KeepsPort p ⊎ ServesPort l p NoMemory)
 
 -- the same of the catalog that is this text
 pub record ServesLists (o : ServeOptions) (text : List ℕ) (c : Call) (p : Ports) (served : Served) : Type 0 where
   pub catalog : List Entry
   pub is : IsCatalog (records_of text) catalog
-  pub them : ServesThem o.listening.conns catalog c.before.shelf c.after.shelf p served
+  pub them : ServesThem o.listening catalog c.before.shelf c.after.shelf p served
 
--- no memory was left: the text may be a catalog whose sources were asked for, and all that were taken were put back
-pub record WantsMemory (text : List ℕ) (c : Call) : Type 0 where
+-- no memory was left: the text may be a catalog whose sources were asked for, and all that were taken were put back; and the port may have listened
+pub record WantsMemory (o : ServeOptions) (text : List ℕ) (c : Call) (p : Ports) : Type 0 where
   pub catalog : List Entry
   pub is : IsCatalog (records_of text) catalog
   pub borrows : BorrowsSome catalog c.before.shelf c.after.shelf
+  pub port : KeepsPort p ⊎ ServesPort o.listening p NoMemory
 
 -- how a server ends over the catalog that is this text, once the shelf gave it
 abbrev pub ServeEndsOverCatalog : ServeOptions → List ℕ → Call → Ports → Status → Type 0
@@ -63,7 +73,7 @@ ServeEndsOverCatalog o text c p BadCatalog = (said : List ℕ) × NoCatalog text
 ServeEndsOverCatalog o text c p WriteFault =
     ((said : List ℕ) × NoCatalog text c p said × WroteFront c said)
     ⊎ ((count : ℕ) × ServesLists o text c p (Ended count) × WroteFront c (served_text count))
-ServeEndsOverCatalog o text c p Memory = (AskedNothing c p ⊎ WantsMemory text c) × WroteNothing c
+ServeEndsOverCatalog o text c p Memory = (AskedNothing c p ⊎ WantsMemory o text c p) × WroteNothing c
 ServeEndsOverCatalog _ _ _ _ _ = ⊥
 
 -- the shelf gave the catalog's text, and then a server over it ended so

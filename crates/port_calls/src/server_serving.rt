@@ -25,7 +25,7 @@ use std::sync::Wait;
 use std::thread::Threads;
 use tk_io::Port;
 
-/// Takes the source of each list of a catalog, serves the links of the port over the lists, and puts the sources back, however that ends.
+/// Takes the source of each list of a catalog, listens at the port, serves its links over the lists, and puts the sources back, however that ends.
 pub(crate) fn serve_lists<W: Threads + Wait + Sync, H: Shelf, P: Port>(
     rt: &W,
     alloc: Global,
@@ -35,7 +35,7 @@ pub(crate) fn serve_lists<W: Threads + Wait + Sync, H: Shelf, P: Port>(
     port: &mut P,
 ) -> Served
     requires { AreSettings options.now.settings }
-    ensures { EndsLists options.now.listening.conns catalog
+    ensures { EndsLists options.now.listening catalog
         (shelf_as H.texts H.lists H.versions H.at shelf.old) (shelf_as H.texts H.lists H.versions H.at shelf.new)
         (ports_of P.links P.closed P.faults P.calls (port.old, port.new)) result }
 {
@@ -111,7 +111,7 @@ fn serve_at<W: Threads + Wait + Sync, S: Source, P: Port>(
     ensures idle { All IsIdle slots.new.items }
     ensures many { length slots.new.items ≡ length slots.old.items }
     ensures catalog { lists.new.catalog ≡ lists.old.catalog }
-    ensures serves { ServesPort options.now.listening.conns (ports_of P.links P.closed P.faults P.calls (port.old, port.new)) result }
+    ensures serves { ServesPort options.now.listening (ports_of P.links P.closed P.faults P.calls (port.old, port.new)) result }
     ensures closed { P.closed port.new ≡ P.closed port.old }
 {
     match port.listen(options.listening.at) {

@@ -1,5 +1,6 @@
 -- How the links of a port are taken.
-use Rattle.std.specs.Prelude.{◌≡◌, ◌⊎◌, ◌<◌, ◌≤◌, ℕ, List, ◌++◌, Option, Some, None, length, ⊤}
+use Rattle.std.specs.Prelude.{◌≡◌, ◌⊎◌, ◌<◌, ◌≤◌, ℕ, List, [], ◌∷◌, ◌++◌, Option, Some, None, length, replicate, ⊤}
+use Rattle.tk_io.specs.Calls.{PortCall, with_more}
 use Rattle.tk_io.specs.Faults.{Rose}
 use Rattle.tk_io.specs.Links.{GivesFirst, HasNone}
 use Rattle.query_server.specs.declared.accepting.Accepted.{Accepted}
@@ -52,3 +53,22 @@ AcceptsNext links links_now faults faults_now next.Handed = TookOne links links_
 AcceptsNext links links_now faults faults_now next.Left = TookOne links links_now × (faults_now ≡ faults)
 AcceptsNext links links_now faults faults_now next.Ended = (links_now ≡ links) × HasNone links × (faults_now ≡ faults)
 AcceptsNext links links_now faults faults_now next.Failed = (links_now ≡ links) × Rose faults faults_now
+
+-- what a port is asked for the next link, and what came of it
+abbrev pub call_of : Next → PortCall
+call_of next.Handed = PortCall.Gave
+call_of next.Left = PortCall.Gave
+call_of next.Ended = PortCall.Ended
+call_of next.Failed = PortCall.Failed
+
+-- a port was asked for links and for nothing else: it gave so many, and was asked for none behind its end or its failure
+pub record GaveLinks (count : ℕ) (calls calls_now : Option (List PortCall)) : Type 0 where
+  pub last : List PortCall
+  pub end : (last ≡ []) ⊎ ((last ≡ PortCall.Ended ∷ []) ⊎ (last ≡ PortCall.Failed ∷ []))
+  pub asked : calls_now ≡ with_more (replicate count PortCall.Gave ++ last) calls
+
+-- the same of a side that ended so: it took the links that the port gave
+abbrev pub AsksFor : Option (List PortCall) → Option (List PortCall) → Accepted → Type 0
+AsksFor calls calls_now (accepted.Ended count) = GaveLinks count calls calls_now
+AsksFor calls calls_now accepted.PortFault = (count : ℕ) × GaveLinks count calls calls_now
+AsksFor calls calls_now accepted.Left = (count : ℕ) × GaveLinks count calls calls_now

@@ -4,7 +4,8 @@ use Rattle.ranked_list.specs.declared.row.Row.{Row}
 use Rattle.source_api.specs.declared.counts.Counts.{Counts}
 use Rattle.source_api.specs.Counting.{NoneFell}
 use Rattle.fetcher.specs.declared.slot.Slot.{Slot}
-use Rattle.query_server.specs.Accepting.{TookAll, TookSome}
+use Rattle.tk_io.specs.Calls.{PortCall}
+use Rattle.query_server.specs.Accepting.{TookAll, TookSome, GaveLinks}
 use Rattle.query_server.specs.declared.server.Served.{Served}
 use Rattle.query_server.specs.declared.server.Served.TheVariants as served
 
@@ -19,3 +20,9 @@ abbrev pub ServesLinks : ℕ → Option (List (List ℕ)) → Option (List (List
 ServesLinks asked links links_now faults faults_now (served.Ended count) = TookAll asked links links_now faults faults_now count
 ServesLinks asked links links_now faults faults_now served.PortFault = TookSome asked links links_now faults faults_now
 ServesLinks asked links links_now faults faults_now served.Memory = ⊤
+
+-- a port was asked for the links that were taken, and for nothing else
+abbrev pub AsksForLinks : Option (List PortCall) → Option (List PortCall) → Served → Type 0
+AsksForLinks calls calls_now (served.Ended count) = GaveLinks count calls calls_now
+AsksForLinks calls calls_now served.PortFault = (count : ℕ) × GaveLinks count calls calls_now
+AsksForLinks calls calls_now served.Memory = (count : ℕ) × GaveLinks count calls calls_now

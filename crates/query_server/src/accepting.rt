@@ -1,7 +1,8 @@
 //! The side that has the port.
 
-ghost use Rattle.std.specs.Prelude.{◌≡◌};
-ghost use Rattle.query_server.specs.Accepting.{Accepts, AcceptsNext};
+ghost use Rattle.std.specs.Prelude.{◌≡◌, [], ◌∷◌};
+ghost use Rattle.tk_io.specs.Calls.{with_more};
+ghost use Rattle.query_server.specs.Accepting.{Accepts, AcceptsNext, AsksFor, call_of};
 
 use super::queue::LinkQueue;
 use std::sync::Wait;
@@ -34,6 +35,7 @@ enum Next {
 fn accept_next<P: Port>(rt: &impl Wait, port: &mut P, queue: &LinkQueue<P::L>) -> Next
     ensures next { AcceptsNext (P.links port.old) (P.links port.new) (P.faults port.old) (P.faults port.new) result }
     ensures closed { P.closed port.new ≡ P.closed port.old }
+    ensures calls { P.calls port.new ≡ with_more (call_of result ∷ []) (P.calls port.old) }
 {
     match port.accept() {
         Ok(Some(link)) => {
@@ -57,6 +59,7 @@ fn accept_links<P: Port>(
 ) -> Accepted
     ensures accepts { Accepts conns (P.links port.old) (P.links port.new) (P.faults port.old) (P.faults port.new) result }
     ensures closed { P.closed port.new ≡ P.closed port.old }
+    ensures calls { AsksFor (P.calls port.old) (P.calls port.new) result }
 {
     let mut taken = 0;
     while taken < conns {
@@ -71,7 +74,8 @@ fn accept_links<P: Port>(
 }
 
 /// Takes at most so many links of a port, and puts each into the queue, which is ended behind the last. It ends before where the port
-/// has ended or failed, or where the queue was left. The port has to listen already. The call may wait for ever.
+/// has ended or failed, or where the queue was left. The port has to listen already, and is asked for nothing but its links. The call may
+/// wait for ever.
 ///
 /// A link that is put into the queue is the business of who takes it: none is given back to the port.
 pub fn accept_all<P: Port>(
@@ -82,6 +86,7 @@ pub fn accept_all<P: Port>(
 ) -> Accepted
     ensures accepts { Accepts conns (P.links port.old) (P.links port.new) (P.faults port.old) (P.faults port.new) result }
     ensures closed { P.closed port.new ≡ P.closed port.old }
+    ensures calls { AsksFor (P.calls port.old) (P.calls port.new) result }
 {
     let accepted = accept_links(rt, port, queue, conns);
     queue.end(rt);

@@ -81,9 +81,13 @@ pub(crate) fn entries_again<S: Source>(
     ensures sized { IfOk result (λ now. All IsSized now.items) }
     ensures home { IfOk result (λ now. AreAtHome homes.now now.items) }
 {
-    let mut now = Vec::with_capacity(alloc, entries.len())?;
+    let Ok(mut now) = Vec::with_capacity(alloc, entries.len()) else {
+        return Err(Memory);
+    };
     for place in 0..entries.len() {
-        let entry = entry_again(alloc, homes[place], entries[place], slots)?;
+        let Ok(entry) = entry_again(alloc, homes[place], entries[place], slots) else {
+            return Err(Memory);
+        };
         now.push_reserved(entry);
     }
     Ok(now)

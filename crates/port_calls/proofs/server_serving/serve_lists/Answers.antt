@@ -1,4 +1,4 @@
-use Rattle.std.proofs.Common.{◌≡◌, ◌∙◌, ap, refl}
+use Rattle.std.proofs.Common.{◌≡◌, ◌∙◌, ap, inl, refl}
 use Rattle.query_server.specs.Entries.{Openings}
 use Rattle.call_ends.specs.Shelves.{Shelf}
 use Rattle.call_ends.proofs.Ending.{shelf_at}
@@ -14,7 +14,7 @@ returns-in-Ok g c =
     let o = c.open_all.ensures in
     let b = c.put_back_all.ensures in
     let same : c.catalog-in-Ok.result.now ≡ c.args.catalog = c.catalog-in-Ok.ensures ∙ c.serve_at-served.ensures.catalog ∙ ap (λ (l : Openings). l.catalog) c.make-lists.ensures in
-    lists_end c.args.options.now.listening.conns c.args.catalog before after (ports_of g.P.Port.links g.P.Port.closed g.P.Port.faults g.P.Port.calls (c.args.port.now, c.serve_at-served.new.port)) c.serve_at-served.result
+    lists_end c.args.options.now.listening c.args.catalog before after (ports_of g.P.Port.links g.P.Port.closed g.P.Port.faults g.P.Port.calls (c.args.port.now, c.serve_at-served.new.port)) c.serve_at-served.result
     (borrows_all c.args.catalog before mid after _
     (borrows_from g.H.Item.Source.counts c.args.catalog c.catalog-in-Ok.result.now before mid after c.open_all.new.opened.openings.items _ c.deref.result.now _ same c.deref.ensures.value
     o.texts o.lists o.versions b.texts b.lists b.versions o.opened o.few_asks b.moves b.others (c.serve_at-served.ensures.many ∙ o.many))
@@ -36,6 +36,8 @@ returns-in-Err g c =
     let mid : Shelf = shelf_at (g.H.Shelf.texts c.open_all.new.shelf) (g.H.Shelf.lists c.open_all.new.shelf) (g.H.Shelf.versions c.open_all.new.shelf) (g.H.Shelf.at c.open_all.new.shelf) in
     let after : Shelf = shelf_at (g.H.Shelf.texts c.put_back_all-in-Err.new.shelf) (g.H.Shelf.lists c.put_back_all-in-Err.new.shelf) (g.H.Shelf.versions c.put_back_all-in-Err.new.shelf) (g.H.Shelf.at c.put_back_all-in-Err.new.shelf) in
     let o = c.open_all.ensures in
-    let b = c.put_back_all-in-Err.ensures in
-    borrows_from g.H.Item.Source.counts c.args.catalog c.args.catalog before mid after c.open_all.new.opened.openings.items _ c.deref-in-Err.result.now _ refl c.deref-in-Err.ensures.value
-    o.texts o.lists o.versions b.texts b.lists b.versions o.opened o.few_asks b.moves b.others o.many
+    let b = c.put_back_all-in-Err.ensures in (
+      borrows_from g.H.Item.Source.counts c.args.catalog c.args.catalog before mid after c.open_all.new.opened.openings.items _ c.deref-in-Err.result.now _ refl c.deref-in-Err.ensures.value
+          o.texts o.lists o.versions b.texts b.lists b.versions o.opened o.few_asks b.moves b.others o.many,
+      inl refl,
+    )

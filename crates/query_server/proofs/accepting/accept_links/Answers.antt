@@ -1,5 +1,6 @@
-use Rattle.std.proofs.Common.{◌+◌, ◌≤◌, ◌∙◌, arith}
-use Rattle.query_server.proofs.TakingLaws.{took_more}
+use Rattle.std.proofs.Common.{◌+◌, ◌≤◌, ◌∙◌, arith, inl, inr, refl}
+use Rattle.tk_io.specs.Calls.{PortCall}
+use Rattle.query_server.proofs.TakingLaws.{took_more, gave_more, gave_all, gave_last}
 use Rattle.query_server.proofs.accepting.accept_links.Goals as goal
 
 pub loop-taken-preserved : goal.loop-taken-preserved
@@ -11,6 +12,7 @@ loop-taken-preserved g c =
       few,
       next.1 ∙ before.2,
       c.in-Handed.ensures.closed ∙ before.3,
+      gave_more (g.P.Port.calls c.args.port.now) (g.P.Port.calls c.loop-taken.port) (g.P.Port.calls c.accept_next.new.port) c.loop-taken.taken before.4 c.in-Handed.ensures.calls,
     )
 
 pub returns-in-Left-clause-accepts : goal.returns-in-Left-clause-accepts
@@ -24,3 +26,22 @@ returns-in-Left-clause-accepts g c =
       few = few;
       quiet = next.1 ∙ before.2;
     }
+
+pub returns-in-Left-clause-calls : goal.returns-in-Left-clause-calls
+returns-in-Left-clause-calls g c = (
+  c.loop-taken.taken + 1,
+  gave_all (g.P.Port.calls c.args.port.now) (g.P.Port.calls c.accept_next.new.port) (c.loop-taken.taken + 1)
+      (gave_more (g.P.Port.calls c.args.port.now) (g.P.Port.calls c.loop-taken.port) (g.P.Port.calls c.accept_next.new.port) c.loop-taken.taken c.loop-taken.invariant.4 c.in-Left.ensures.calls),
+)
+
+pub returns-in-Ended-clause-calls : goal.returns-in-Ended-clause-calls
+returns-in-Ended-clause-calls g c =
+    gave_last (g.P.Port.calls c.args.port.now) (g.P.Port.calls c.loop-taken.port) (g.P.Port.calls c.accept_next.new.port) c.loop-taken.taken PortCall.Ended (inl refl)
+    c.loop-taken.invariant.4 c.in-Ended.ensures.calls
+
+pub returns-in-Failed-clause-calls : goal.returns-in-Failed-clause-calls
+returns-in-Failed-clause-calls g c = (
+  c.loop-taken.taken,
+  gave_last (g.P.Port.calls c.args.port.now) (g.P.Port.calls c.loop-taken.port) (g.P.Port.calls c.accept_next.new.port) c.loop-taken.taken PortCall.Failed (inr refl)
+      c.loop-taken.invariant.4 c.in-Failed.ensures.calls,
+)
