@@ -1,4 +1,5 @@
 -- Lemmas on streams.
+pub mod Calling
 mod Causes
 mod Giving
 pub mod Putting

@@ -3,11 +3,13 @@ use Rattle.std.specs.Prelude.{◌≡◌, ℕ, ◌+◌, ◌-◌, ◌^◌, ◌<◌
 use Rattle.std.specs.Io.KnownBytes.{IsAtEnd}
 use Rattle.tk_io.specs.Faults.{Rose}
 
--- a link that was given back: the bytes that it took, where it tells them, and how many of its reads and of its writes failed
+-- a link that was given back: the bytes that it took, where it tells them, how many of its reads and of its writes failed, and what each read of it gave, where
+-- it tells that
 pub record Closed : Type 0 where
   pub taken : Option (List ℕ)
   pub read_faults : ℕ
   pub write_faults : ℕ
+  pub pieces : Option (List (List ℕ))
 
 -- the first of the links to come is given, where they are told: a link with its bytes, which tells that it took none
 abbrev pub GivesFirst : Option (List (List ℕ)) → Option (List (List ℕ)) → Option (List ℕ) → Option (List ℕ) → Type 0
@@ -20,11 +22,17 @@ abbrev pub HasNone : Option (List (List ℕ)) → Type 0
 HasNone None = ⊤
 HasNone (Some links) = links ≡ []
 
--- a link that was just given has taken nothing, and no call of it failed
-pub record IsFresh (held : Option (List ℕ)) (read_faults write_faults : ℕ) : Type 0 where
+-- no read was made that gave something, where the pieces that reads gave are told
+abbrev pub IsUnread : Option (List (List ℕ)) → Type 0
+IsUnread None = ⊤
+IsUnread (Some pieces) = pieces ≡ []
+
+-- a link that was just given has taken nothing and given nothing, and no call of it failed
+pub record IsFresh (held : Option (List ℕ)) (read_faults write_faults : ℕ) (pieces : Option (List (List ℕ))) : Type 0 where
   pub taken : IsAtEnd held
   pub reads : read_faults ≡ 0
   pub writes : write_faults ≡ 0
+  pub unread : IsUnread pieces
 
 -- the links that were given back are one more, where they are told
 abbrev pub ClosesOne : Option (List Closed) → Option (List Closed) → Closed → Type 0

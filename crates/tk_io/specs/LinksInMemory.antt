@@ -1,5 +1,5 @@
 -- What the links in memory are, and what gives them.
-use Rattle.std.specs.Prelude.{◌≡◌, ℕ, ◌+◌, List, [], Option, Some, map}
+use Rattle.std.specs.Prelude.{◌≡◌, ℕ, ◌+◌, List, [], Option, None, Some, map}
 use Rattle.tk_io.specs.Faults.{counted}
 use Rattle.tk_io.specs.InMemory.{Incoming, Outgoing}
 use Rattle.tk_io.specs.Links.{Closed}
@@ -21,6 +21,7 @@ closed_of link = record {
   taken = Some link.outgoing.held;
   read_faults = link.incoming.faults;
   write_faults = link.outgoing.faults;
+  pieces = None;
 }
 
 -- what gives links: those that are to come, how many are out, those that were given back, the numbers of the calls that fail,

@@ -32,7 +32,7 @@ pub trait Dial {
         ensures given { IfOk result (λ link.
             GivesFirst (links self.old) (links self.new) (Self.L.left link) (Self.L.held link)) }
         ensures fresh { IfOk result (λ link.
-            IsFresh (Self.L.held link) (Self.L.Intake.faults link) (Self.L.Sink.faults link)) }
+            IsFresh (Self.L.held link) (Self.L.Intake.faults link) (Self.L.Sink.faults link) (Self.L.pieces link)) }
         ensures out { IfOk result (λ link. may_close self.new) }
         ensures kept { OnErr result (links self.new ≡ links self.old) }
         ensures closed { closed self.new ≡ closed self.old }
@@ -47,6 +47,7 @@ pub trait Dial {
           taken = Self.L.held link;
           read_faults = Self.L.Intake.faults link;
           write_faults = Self.L.Sink.faults link;
+          pieces = Self.L.pieces link;
         }) }
         ensures dialled { dialled self.new ≡ dialled self.old }
         ensures faults { AddsFaults (faults self.old) (faults self.new) (Self.L.Intake.faults link + Self.L.Sink.faults link) };

@@ -76,7 +76,7 @@ impl Dial for MemDial {
     fn dial(&mut self, _host: &str, _port: u16) -> Result<MemLink, Failed>
         ensures given { IfOk result (λ link.
             GivesFirst (bytes_to_come self.old) (bytes_to_come self.new) (Some link.incoming.left) (Some link.outgoing.held)) }
-        ensures fresh { IfOk result (λ link. IsFresh (Some link.outgoing.held) link.incoming.faults link.outgoing.faults) }
+        ensures fresh { IfOk result (λ link. IsFresh (Some link.outgoing.held) link.incoming.faults link.outgoing.faults None) }
         ensures out { IfOk result (λ link. 0 < self.new.out) }
         ensures kept { OnErr result (bytes_to_come self.new ≡ bytes_to_come self.old) }
         ensures closed { self.new.closed ≡ self.old.closed }

@@ -122,13 +122,13 @@ impl MemLink {
 }
 
 impl Intake for MemLink {
-    ghost use Rattle.std.specs.Prelude.{Some};
+    ghost use Rattle.std.specs.Prelude.{None, Some};
 
     ghost left = { λ l. Some l.incoming.left };
 
     ghost faults = { λ l. l.incoming.faults };
 
-    ghost aside = { λ l. record { bytes = Some l.outgoing.held; faults = l.outgoing.faults } };
+    ghost aside = { λ l. record { bytes = Some l.outgoing.held; faults = l.outgoing.faults; pieces = None } };
 
     /// Reads as a `MemIntake` does.
     fn read(&mut self, into: &mut [u8]) -> Result<usize, Failed>
@@ -147,13 +147,13 @@ impl Intake for MemLink {
 }
 
 impl Sink for MemLink {
-    ghost use Rattle.std.specs.Prelude.{Some};
+    ghost use Rattle.std.specs.Prelude.{None, Some};
 
     ghost held = { λ l. Some l.outgoing.held };
 
     ghost faults = { λ l. l.outgoing.faults };
 
-    ghost aside = { λ l. record { bytes = Some l.incoming.left; faults = l.incoming.faults } };
+    ghost aside = { λ l. record { bytes = Some l.incoming.left; faults = l.incoming.faults; pieces = None } };
 
     /// Writes as a `MemSink` does.
     fn write(&mut self, bytes: &[u8]) -> Result<usize, Failed>
@@ -193,7 +193,7 @@ pub struct Ended {
 }
 
 impl Model for Ended {
-    ghost use Rattle.std.specs.Prelude.{Some};
+    ghost use Rattle.std.specs.Prelude.{None, Some};
     ghost use Rattle.tk_io.specs.Links.{Closed};
 
     ghost Value = { Closed };
@@ -202,6 +202,7 @@ impl Model for Ended {
       taken = Some e.taken.items;
       read_faults = e.read_faults;
       write_faults = e.write_faults;
+      pieces = None;
     } };
 }
 

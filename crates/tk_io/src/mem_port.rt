@@ -88,7 +88,7 @@ impl Port for MemPort {
         ensures given { IfOk result (λ given. IfSome given (λ link.
             GivesFirst (bytes_to_come self.old) (bytes_to_come self.new) (Some link.incoming.left) (Some link.outgoing.held))) }
         ensures fresh { IfOk result (λ given. IfSome given (λ link.
-            IsFresh (Some link.outgoing.held) link.incoming.faults link.outgoing.faults)) }
+            IsFresh (Some link.outgoing.held) link.incoming.faults link.outgoing.faults None)) }
         ensures out { IfOk result (λ given. IfSome given (λ link. 0 < self.new.out)) }
         ensures ended { IfOk result (λ given. given ≡ None
             → HasNone (bytes_to_come self.old) × (bytes_to_come self.new ≡ bytes_to_come self.old)) }

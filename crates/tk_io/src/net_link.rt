@@ -79,7 +79,7 @@ impl<C: Clock + Drop> Intake for NetLink<C> {
 
     ghost faults = { λ l. l.read_faults };
 
-    ghost aside = { λ l. record { bytes = None; faults = l.write_faults } };
+    ghost aside = { λ l. record { bytes = None; faults = l.write_faults; pieces = None } };
 
     /// Reads once, and again where the call was interrupted. Any other error is a fault, and so is a read
     /// that begins too late.
@@ -102,7 +102,7 @@ impl<C: Clock + Drop> Sink for NetLink<C> {
 
     ghost faults = { λ l. l.write_faults };
 
-    ghost aside = { λ l. record { bytes = None; faults = l.read_faults } };
+    ghost aside = { λ l. record { bytes = None; faults = l.read_faults; pieces = None } };
 
     /// Writes once, and again where the call was interrupted. Any other error is a fault, and so is a
     /// write that takes nothing of a piece, or that begins too late.

@@ -39,7 +39,7 @@ pub trait Port: Send {
         ensures given { IfOk result (λ given. IfSome given (λ link.
             GivesFirst (links self.old) (links self.new) (Self.L.left link) (Self.L.held link))) }
         ensures fresh { IfOk result (λ given. IfSome given (λ link.
-            IsFresh (Self.L.held link) (Self.L.Intake.faults link) (Self.L.Sink.faults link))) }
+            IsFresh (Self.L.held link) (Self.L.Intake.faults link) (Self.L.Sink.faults link) (Self.L.pieces link))) }
         ensures out { IfOk result (λ given. IfSome given (λ link. may_close self.new)) }
         ensures ended { IfOk result (λ given. given ≡ None → HasNone (links self.old) × (links self.new ≡ links self.old)) }
         ensures kept { OnErr result (links self.new ≡ links self.old) }
@@ -55,6 +55,7 @@ pub trait Port: Send {
           taken = Self.L.held link;
           read_faults = Self.L.Intake.faults link;
           write_faults = Self.L.Sink.faults link;
+          pieces = Self.L.pieces link;
         }) }
         ensures calls { calls self.new ≡ with_more (PortCall.TookBack ∷ []) (calls self.old) }
         ensures faults { faults self.new ≡ faults self.old };
