@@ -4,7 +4,7 @@ mod FindLaws
 pub mod OnlyLaws
 mod PartLaws
 mod ReplyLaws
-mod SparingLaws
+pub mod SparingLaws
 mod StepLaws
 mod WholeLaws
 pub mod ToldLaws

@@ -1,10 +1,11 @@
 -- Reads that stop once a message is whole, one step behind another.
-use Rattle.std.proofs.Common.{◌≡◌, ℕ, ◌≤◌, List, [], ◌∷◌, ◌++◌, Option, Some, None, Ok, length, drop, sym, ap, subst, ◌∙◌, append_assoc, append-nil, arith}
+use Rattle.std.proofs.Common.{◌≡◌, ℕ, ◌≤◌, List, [], ◌∷◌, ◌++◌, Option, Some, None, Ok, length, drop, refl, sym, ap, subst, ◌∙◌, append_assoc, append-nil, arith}
 use Rattle.std.specs.List.{concat}
 use Rattle.std.proofs.lemmas.List.{append_cancel_left}
 use Rattle.std.proofs.lemmas.List.Folds.{concat-append}
+use Rattle.tk_io.specs.Links.{IsUnread}
 use Rattle.wire.specs.Parts.{HasOne, HasNone, Finds, Takes}
-use Rattle.wire.specs.Sparing.{IsSparing, WereRead, ReadsSparingly, ReadsOnce, GrewBy, OfRead}
+use Rattle.wire.specs.Sparing.{IsSparing, WereRead, ReadsSparingly, WasReadSparingly, ReadsOnce, GrewBy, OfRead}
 use Rattle.wire.specs.declared.found.Found.{Found}
 use Rattle.wire.proofs.PartLaws.{none_found}
 
@@ -47,25 +48,25 @@ sparing_once IsWhole came (piece ∷ other ∷ more) not_so few = absurd (omega 
 
 -- both hold
 were_both : (P Q : List (List ℕ) → Type 0) (a b : Option (List (List ℕ))) → WereRead P a b → WereRead Q a b → WereRead (λ more. P more × Q more) a b
-were_both P Q None b p q = tt
+were_both P Q None b p q = p
 were_both P Q (Some a) None p q = absurd p
 were_both P Q (Some a) (Some b) p q = (p.0, p.1, (p.2, subst Q (append_cancel_left a q.0 p.0 (sym q.1 ∙ p.1)) q.2))
 
 -- what follows holds
 pub were_as : (P Q : List (List ℕ) → Type 0) (a b : Option (List (List ℕ))) → ((more : List (List ℕ)) → P more → Q more) → WereRead P a b → WereRead Q a b
-were_as P Q None b next p = tt
+were_as P Q None b next p = p
 were_as P Q (Some a) None next p = absurd p
 were_as P Q (Some a) (Some b) next p = (p.0, p.1, next p.0 p.2)
 
 -- nothing was read
 pub were_none : (P : List (List ℕ) → Type 0) (a : Option (List (List ℕ))) → P [] → WereRead P a a
-were_none P None holds = tt
+were_none P None holds = refl
 were_none P (Some a) holds = ([], sym (append-nil a), holds)
 
 -- one step and then another
 pub were_then : (P Q S : List (List ℕ) → Type 0) (a b c : Option (List (List ℕ))) → ((more others : List (List ℕ)) → P more → Q others → S (more ++ others))
     → WereRead P a b → WereRead Q b c → WereRead S a c
-were_then P Q S None b c join one two = tt
+were_then P Q S None b c join one two = subst (λ (mid : Option (List (List ℕ))). WereRead Q mid c) one two
 were_then P Q S (Some a) None c join one two = absurd one
 were_then P Q S (Some a) (Some b) None join one two = absurd two
 were_then P Q S (Some a) (Some b) (Some c) join one two = (
@@ -113,6 +114,21 @@ of_then Holds More All came feed late a b c stays join one two =
     (append_assoc came (concat more) (concat others) ∙ ap (λ (zs : List ℕ). came ++ zs) (sym (concat-append more others)))
     (join ((came ++ concat more) ++ concat others) (feed ++ concat others) (stays (came ++ concat more) feed (concat others) x) y))
     one two
+
+-- reads and then none
+pub sparing_kept : (IsWhole : List ℕ → Type 0) (came : List ℕ) (a b c : Option (List (List ℕ))) → ReadsSparingly IsWhole came a b → c ≡ b → ReadsSparingly IsWhole came a c
+sparing_kept IsWhole came a b c sparing same = subst (ReadsSparingly IsWhole came a) (sym same) sparing
+
+-- all reads of a link that was just given
+pub sparing_fresh : (IsWhole : List ℕ → Type 0) (a b : Option (List (List ℕ))) → IsUnread a → ReadsSparingly IsWhole [] a b → WasReadSparingly IsWhole b
+sparing_fresh IsWhole None b unread sparing = subst (WasReadSparingly IsWhole) (sym sparing) tt
+sparing_fresh IsWhole (Some a) None unread sparing = tt
+sparing_fresh IsWhole (Some a) (Some b) unread sparing =
+    subst (IsSparing IsWhole []) (sym (sparing.1 ∙ ap (λ (xs : List (List ℕ)). xs ++ sparing.0) unread)) sparing.2
+
+-- no read of a link that was just given
+pub unread_sparing : (IsWhole : List ℕ → Type 0) (a : Option (List (List ℕ))) → IsUnread a → WasReadSparingly IsWhole a
+unread_sparing IsWhole a unread = sparing_fresh IsWhole a a unread (were_none (IsSparing IsWhole []) a tt)
 
 -- what was taken of bytes is taken of more
 pub more_behind : (part all rest more : List ℕ) → all ≡ part ++ rest → all ++ more ≡ part ++ (rest ++ more)

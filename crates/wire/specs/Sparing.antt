@@ -1,5 +1,5 @@
 -- When a message is whole, and reads that stop there.
-use Rattle.std.specs.Prelude.{◌≡◌, ℕ, ◌≤◌, ◌⊎◌, List, [], ◌∷◌, ◌++◌, length, Option, Some, None, ⊤}
+use Rattle.std.specs.Prelude.{◌≡◌, ℕ, ◌≤◌, ◌⊎◌, List, [], ◌∷◌, ◌++◌, length, Option, Some, None, IfSome, ⊤}
 use Rattle.std.specs.List.{concat}
 use Rattle.std.specs.Io.KnownBytes.{Consumes}
 use Rattle.httparse.specs.Grammar.{IsRequestHead, print_request, ResponseHead, IsResponseHead, print_response, status_code, ChunkLine, print_chunk_line}
@@ -14,15 +14,19 @@ abbrev pub IsSparing : (List ℕ → Type 0) → List ℕ → List (List ℕ) �
 IsSparing IsWhole came [] = ⊤
 IsSparing IsWhole came (piece ∷ more) = (IsWhole came → ⊥) × IsSparing IsWhole (came ++ piece) more
 
--- this holds of the pieces that were read between two moments, where the stream tells them
+-- this holds of the pieces that were read between two moments, where the stream tells them; one that tells none tells none later
 abbrev pub WereRead : (List (List ℕ) → Type 0) → Option (List (List ℕ)) → Option (List (List ℕ)) → Type 0
-WereRead Holds None now = ⊤
+WereRead Holds None now = now ≡ None
 WereRead Holds (Some before) None = ⊥
 WereRead Holds (Some before) (Some now) = (more : List (List ℕ)) × (now ≡ before ++ more) × Holds more
 
 -- no read was made once what had come was whole
 abbrev pub ReadsSparingly : (List ℕ → Type 0) → List ℕ → Option (List (List ℕ)) → Option (List (List ℕ)) → Type 0
 ReadsSparingly IsWhole came before now = WereRead (IsSparing IsWhole came) before now
+
+-- of a link that was given back no read was made once what had come was whole, where it tells what its reads gave
+abbrev pub WasReadSparingly : (List ℕ → Type 0) → Option (List (List ℕ)) → Type 0
+WasReadSparingly IsWhole pieces = IfSome pieces (IsSparing IsWhole [])
 
 -- the whole head of a request stands at the front
 abbrev pub HoldsRequest : List ℕ → Type 0

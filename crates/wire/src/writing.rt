@@ -44,7 +44,7 @@ pub fn write_request<L: Link>(link: &mut L, place: &Place, tail: &[u8]) -> Resul
     ensures writes { Writes (L.held link.old) (L.held link.new) (L.Sink.faults link.old) (L.Sink.faults link.new) result (request_text place.now tail.now) }
     ensures fault { IfErr result (λ fault. fault ≡ LinkFault) }
     ensures apart { L.Sink.aside link.new ≡ L.Sink.aside link.old }
-    ensures incoming { (L.left link.new ≡ L.left link.old) × (L.Intake.faults link.new ≡ L.Intake.faults link.old) }
+    ensures incoming { (L.left link.new ≡ L.left link.old) × (L.Intake.faults link.new ≡ L.Intake.faults link.old) × (L.Intake.pieces link.new ≡ L.Intake.pieces link.old) }
 {
     let path = place.path.as_bytes();
     write_asked(link, place.host.as_bytes(), place.port, path, tail)
@@ -92,7 +92,7 @@ pub fn write_reply<L: Link>(
     ensures writes { Writes (L.held link.old) (L.held link.new) (L.Sink.faults link.old) (L.Sink.faults link.new) result (reply_text status kind (option_copied body.entry)) }
     ensures fault { IfErr result (λ fault. fault ≡ LinkFault) }
     ensures apart { L.Sink.aside link.new ≡ L.Sink.aside link.old }
-    ensures incoming { (L.left link.new ≡ L.left link.old) × (L.Intake.faults link.new ≡ L.Intake.faults link.old) }
+    ensures incoming { (L.left link.new ≡ L.left link.old) × (L.Intake.faults link.new ≡ L.Intake.faults link.old) × (L.Intake.pieces link.new ≡ L.Intake.pieces link.old) }
 {
     match body {
         Some(body) => write_whole(link, status, kind, body),
