@@ -17,6 +17,7 @@ use Rattle.wire.specs.declared.fault.WireFault.{WireFault}
 use Rattle.wire.specs.declared.fault.WireFault.TheVariants as wire
 use Rattle.wire.specs.declared.response.Reply.{Reply}
 use Rattle.http_source.specs.Replies.{Brings}
+use Rattle.wire.specs.Sparing.{HoldsResponse, WasReadSparingly}
 use Rattle.http_source.specs.Exchanges.{next_bytes, TakesFirst, OneLink, OneLinkInPart, UsesLink, FailsWith}
 use Rattle.http_source.specs.Asking.{TakesRequest, ok_body, or_garbled, body_in, AnswersBody}
 use Rattle.http_source.proofs.OnlyLaws.{OneReply, WholeReply, ShortReply}
@@ -108,17 +109,17 @@ of_fresh (Some links) (Some mid) (Some left) (Some held) Took gives took = subst
 
 pub link_of : (request : List ℕ) (links mid now : Option (List (List ℕ))) (closed closed_now : Option (List Closed)) (left held : Option (List ℕ)) (one : Closed) (reply : Result Reply WireFault)
     → GivesFirst links mid left held → TakesRequest held one.taken request reply → now ≡ mid → ClosesOne closed closed_now one
-    → UsesLink request links now closed closed_now (body_in reply)
-link_of request links mid now closed closed_now left held one reply gives took same closes = by reply took
+    → WasReadSparingly HoldsResponse one.pieces → UsesLink request links now closed closed_now (body_in reply)
+link_of request links mid now closed closed_now left held one reply gives took same closes sparing = by reply took
   where
     first : TakesFirst links now
     first = subst (λ (later : Option (List (List ℕ))). TakesFirst links later) (sym same) (first_taken links mid left held gives)
 
     all : Appends held one.taken request → OneLink request links now closed closed_now
-    all took = record { one = one; first = first; given_back = closes; took = of_fresh links mid left held (λ before. Appends before one.taken request) gives took }
+    all took = record { one = one; first = first; given_back = closes; took = of_fresh links mid left held (λ before. Appends before one.taken request) gives took; sparing = sparing }
 
     part : TookFront held one.taken request → OneLinkInPart request links now closed closed_now
-    part took = record { one = one; first = first; given_back = closes; took = of_fresh links mid left held (λ before. TookFront before one.taken request) gives took }
+    part took = record { one = one; first = first; given_back = closes; took = of_fresh links mid left held (λ before. TookFront before one.taken request) gives took; sparing = sparing }
 
     read : (body : Option (Vec ℕ)) → OneLink request links now closed closed_now → UsesLink request links now closed closed_now (or_garbled body)
     read None used = used

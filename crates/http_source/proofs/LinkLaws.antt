@@ -25,6 +25,7 @@ link_in_part request links links_now closed closed_now used = record {
   first = used.first;
   given_back = used.given_back;
   took = all_in_part links used.one.taken request used.took;
+  sparing = used.sparing;
 }
 
 -- ---- a body came

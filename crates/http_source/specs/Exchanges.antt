@@ -8,6 +8,7 @@ use Rattle.tk_io.specs.Whole.{TookFront}
 use Rattle.source_api.specs.declared.source.Trouble.{Trouble}
 use Rattle.source_api.specs.declared.source.FailKind.TheVariants.{Failed, Memory}
 use Rattle.source_api.specs.declared.source.Trouble.TheVariants.{Fail}
+use Rattle.wire.specs.Sparing.{HoldsResponse, WasReadSparingly}
 use Rattle.wire.specs.declared.writing.Place.{Place}
 
 -- the bytes of the link to come, where the links are told and there is one
@@ -27,12 +28,13 @@ pub record NoLink (links links_now : Option (List (List ℕ))) (closed closed_no
   pub stay : links_now ≡ links
   pub kept : closed_now ≡ closed
 
--- the first link was taken and given back; of the request it took all, where the links are told
+-- the first link was taken and given back, and read no further than its response; of the request it took all, where the links are told
 pub record OneLink (request : List ℕ) (links links_now : Option (List (List ℕ))) (closed closed_now : Option (List Closed)) : Type 0 where
   pub one : Closed
   pub first : TakesFirst links links_now
   pub given_back : ClosesOne closed closed_now one
   pub took : IfSome links (λ told. Appends (Some []) one.taken request)
+  pub sparing : WasReadSparingly HoldsResponse one.pieces
 
 -- the same, but of the request it took all or a front
 pub record OneLinkInPart (request : List ℕ) (links links_now : Option (List (List ℕ))) (closed closed_now : Option (List Closed)) : Type 0 where
@@ -40,8 +42,9 @@ pub record OneLinkInPart (request : List ℕ) (links links_now : Option (List (L
   pub first : TakesFirst links links_now
   pub given_back : ClosesOne closed closed_now one
   pub took : IfSome links (λ told. TookFront (Some []) one.taken request)
+  pub sparing : WasReadSparingly HoldsResponse one.pieces
 
--- a call makes one request on one link, which it gives back; where it fails or memory is refused there may be no link, or a front of the request
+-- a call makes one request on one link, which it gives back, with no read once the response has come; where it fails or memory is refused there may be no link, or a front of the request
 abbrev pub UsesLink : {T : Type 0} → List ℕ → Option (List (List ℕ)) → Option (List (List ℕ)) → Option (List Closed) → Option (List Closed)
     → Result T Trouble → Type 0
 UsesLink request links links_now closed closed_now (Err (Fail Failed)) =

@@ -5,6 +5,7 @@ ghost use Rattle.tk_io.specs.Links.{IsFresh};
 ghost use Rattle.source_api.specs.Counting.{IsNoMove};
 ghost use Rattle.wire.specs.Responses.{AnswersResponse};
 ghost use Rattle.wire.specs.LinkTold.{Counts};
+ghost use Rattle.wire.specs.Sparing.{HoldsResponse, WasReadSparingly};
 ghost use Rattle.wire.specs.Writing.{request_text};
 ghost use Rattle.http_source.specs.Exchanges.{next_bytes, host_port, UsesLink, DialsOnce, FailsWith, IsUnanswered};
 ghost use Rattle.http_source.specs.Asking.{TakesRequest, ok_body, body_in, AnswersBody};
@@ -19,7 +20,8 @@ use wire::{Place, Reply, WireFault, a_reply_is_the_only_answer, read_response, w
 const OK: u16 = 200;
 
 /// Asks for what stands under the place's path and this tail, on one link to the place's host and port,
-/// which is given back whatever comes. The answer is the body of a reply with status 200.
+/// which is given back whatever comes, and of which no read is made once the whole response has come. The
+/// answer is the body of a reply with status 200.
 pub(crate) fn ask<D: Dial>(
     alloc: Global,
     dial: &mut D,
@@ -73,10 +75,11 @@ fn talk<L: Link>(
     place: &Place,
     tail: &[u8],
 ) -> Result<Reply, WireFault>
-    requires { IsFresh (L.held link.old) (L.Intake.faults link.old) (L.Sink.faults link.old) }
+    requires { IsFresh (L.held link.old) (L.Intake.faults link.old) (L.Sink.faults link.old) (L.Intake.pieces link.old) }
     ensures answers { IfSome (L.left link.old) (λ bytes. AnswersResponse bytes result) }
     ensures took { TakesRequest (L.held link.old) (L.held link.new) (request_text place.now tail.now) result }
     ensures cause { Counts 0 (L.Intake.faults link.new + L.Sink.faults link.new) result }
+    ensures sparing { WasReadSparingly HoldsResponse (L.Intake.pieces link.new) }
 {
     match write_request(link, place, tail) {
         Ok(()) => read_response(alloc, link),

@@ -5,7 +5,8 @@ use Rattle.csv_records.specs.Records.{records_of}
 use Rattle.catalog_text.specs.Catalog.{Listed as Entry, IsCatalog}
 use Rattle.command_words.specs.declared.node.Listening.{Listening}
 use Rattle.command_words.specs.declared.serving.ServeOptions.{ServeOptions}
-use Rattle.query_server.specs.Accepting.{TookAll, TookSome, GaveLinks}
+use Rattle.query_server.specs.Accepting.{TookAll, TookSome}
+use Rattle.query_server.specs.Serving.{AsksForLinks}
 use Rattle.query_server.specs.declared.server.Served.{Served}
 use Rattle.query_server.specs.declared.server.Served.TheVariants.{Ended, PortFault as AtFault, Memory as NoMemory}
 use Rattle.std.specs.Io.KnownBytes.{Keeps}
@@ -26,18 +27,18 @@ pub record ServeListenFailed (number : ℕ) (p : Ports) : Type 0 where
   pub rose : Rose p.before.faults p.after.faults
   pub calls : p.after.calls ≡ (listening number p.before).calls
 
--- the port was to listen at this number, and then it was asked for links and for nothing else: it gave so many
-abbrev pub ListensFor : ℕ → ℕ → Ports → Type 0
-ListensFor number count p = GaveLinks count (listening number p.before).calls p.after.calls
+-- the port was to listen at the stated number, and then it was asked for links and for nothing else, as a server that ended so does
+abbrev pub ListensFor : Listening → Ports → Served → Type 0
+ListensFor l p served = AsksForLinks l.conns (listening l.at p.before).calls p.after.calls served
 
 -- so many links of a port, which listens at the stated number, were taken to be served, as many as are asked for or as come; or the port failed; how many
 -- were taken before memory was wanted is free
 abbrev pub ServesPort : Listening → Ports → Served → Type 0
-ServesPort l p (Ended count) = TookAll l.conns p.before.links p.after.links p.before.faults p.after.faults count × ListensFor l.at count p
+ServesPort l p (Ended count) = TookAll l.conns p.before.links p.after.links p.before.faults p.after.faults count × ListensFor l p (Ended count)
 ServesPort l p AtFault =
     ServeListenFailed l.at p
-    ⊎ (TookSome l.conns p.before.links p.after.links p.before.faults p.after.faults × ((count : ℕ) × ListensFor l.at count p))
-ServesPort l p NoMemory = (count : ℕ) × ListensFor l.at count p
+    ⊎ (TookSome l.conns p.before.links p.after.links p.before.faults p.after.faults × ListensFor l p AtFault)
+ServesPort l p NoMemory = ListensFor l p NoMemory
 
 -- the sources of a catalog were taken, which says what became of the lists, and put back, and between the two the port was served
 pub record ServesThem (l : Listening) (catalog : List Entry) (before now : Shelf) (p : Ports) (served : Served) : Type 0 where

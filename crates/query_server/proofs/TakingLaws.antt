@@ -4,7 +4,12 @@ use Rattle.std.specs.Prelude.{replicate}
 use Rattle.std.proofs.lemmas.List.{replicate-append-replicate}
 use Rattle.tk_io.specs.Calls.{PortCall, with_more}
 use Rattle.tk_io.specs.Links.{GivesFirst, HasNone}
+use Rattle.tk_io.proofs.Calling.{calls_then}
 use Rattle.query_server.specs.Accepting.{Took, TookOne, GaveLinks}
+use Rattle.query_server.specs.Serving.{AsksForLinks}
+use Rattle.query_server.specs.declared.accepting.Accepted.TheVariants as accepted
+use Rattle.query_server.specs.declared.server.Served.{Served}
+use Rattle.query_server.specs.declared.server.Served.TheVariants as served
 
 -- before the first link
 pub took_none : (links : Option (List (List ℕ))) → Took links links 0
@@ -35,10 +40,6 @@ took_same links mid now count took same = subst (λ ls. Took links ls count) (sy
 pub has_none : (links now : Option (List (List ℕ))) → HasNone links → now ≡ links → HasNone now
 has_none links now none same = subst HasNone (sym same) none
 
-more_more : {A : Type 0} (first then_ : List A) (before : Option (List A)) → with_more then_ (with_more first before) ≡ with_more (first ++ then_) before
-more_more first then_ None = refl
-more_more first then_ (Some before) = ap Some (append_assoc before first then_)
-
 -- before the first link nothing was asked of the port
 pub gave_none : (calls : Option (List PortCall)) → calls ≡ with_more (replicate 0 PortCall.Gave) calls
 gave_none None = refl
@@ -49,17 +50,23 @@ pub gave_more : (calls mid now : Option (List PortCall)) (count : ℕ) → mid �
     → now ≡ with_more (PortCall.Gave ∷ []) mid → now ≡ with_more (replicate (count + 1) PortCall.Gave) calls
 gave_more calls mid now count was is =
     is ∙ (ap (with_more (PortCall.Gave ∷ [])) was
-    ∙ (more_more (replicate count PortCall.Gave) (PortCall.Gave ∷ []) calls ∙ ap (λ cs. with_more cs calls) (replicate-append-replicate count 1 PortCall.Gave)))
+    ∙ (calls_then (replicate count PortCall.Gave) (PortCall.Gave ∷ []) calls ∙ ap (λ cs. with_more cs calls) (replicate-append-replicate count 1 PortCall.Gave)))
 
 -- and was asked for no further one
-pub gave_all : (calls now : Option (List PortCall)) (count : ℕ) → now ≡ with_more (replicate count PortCall.Gave) calls → GaveLinks count calls now
-gave_all calls now count is = record { last = []; end = inl refl; asked = is ∙ ap (λ cs. with_more cs calls) (sym (append-nil (replicate count PortCall.Gave))) }
+pub gave_all : (calls now : Option (List PortCall)) (count : ℕ) → now ≡ with_more (replicate count PortCall.Gave) calls → GaveLinks count [] calls now
+gave_all calls now count is = is ∙ ap (λ cs. with_more cs calls) (sym (append-nil (replicate count PortCall.Gave)))
 
--- or was, and had ended or failed
-pub gave_last : (calls mid now : Option (List PortCall)) (count : ℕ) (last : PortCall) → (last ≡ PortCall.Ended) ⊎ (last ≡ PortCall.Failed)
-    → mid ≡ with_more (replicate count PortCall.Gave) calls → now ≡ with_more (last ∷ []) mid → GaveLinks count calls now
-gave_last calls mid now count last which was is = record {
-  last = last ∷ [];
-  end = elim which [ inl e ↦ inr (inl (ap (λ l. l ∷ []) e)) | inr e ↦ inr (inr (ap (λ l. l ∷ []) e)) ];
-  asked = is ∙ (ap (with_more (last ∷ [])) was ∙ more_more (replicate count PortCall.Gave) (last ∷ []) calls);
-}
+-- or was, and this came of it
+pub gave_last : (calls mid now : Option (List PortCall)) (count : ℕ) (last : PortCall) → mid ≡ with_more (replicate count PortCall.Gave) calls
+    → now ≡ with_more (last ∷ []) mid → GaveLinks count (last ∷ []) calls now
+gave_last calls mid now count last was is = is ∙ (ap (with_more (last ∷ [])) was ∙ calls_then (replicate count PortCall.Gave) (last ∷ []) calls)
+
+-- however the side with the port ended where memory was wanted, it asked for links alone
+pub asked_some : (asked : ℕ) (calls now : Option (List PortCall)) (result : Served) → AsksForLinks asked calls now result → AsksForLinks asked calls now served.Memory
+asked_some asked calls now (served.Ended count) asks = (accepted.Ended count, asks)
+asked_some asked calls now served.PortFault asks = (accepted.PortFault, asks)
+asked_some asked calls now served.Memory asks = asks
+
+-- no link was asked for
+pub asked_none : (asked : ℕ) (calls : Option (List PortCall)) → AsksForLinks asked calls calls served.Memory
+asked_none asked calls = (accepted.Left, record { count = 0; few = omega arith; gave = gave_all calls calls 0 (gave_none calls) })

@@ -61,14 +61,29 @@ call_of next.Left = PortCall.Gave
 call_of next.Ended = PortCall.Ended
 call_of next.Failed = PortCall.Failed
 
--- a port was asked for links and for nothing else: it gave so many, and was asked for none behind its end or its failure
-pub record GaveLinks (count : ℕ) (calls calls_now : Option (List PortCall)) : Type 0 where
-  pub last : List PortCall
-  pub end : (last ≡ []) ⊎ ((last ≡ PortCall.Ended ∷ []) ⊎ (last ≡ PortCall.Failed ∷ []))
-  pub asked : calls_now ≡ with_more (replicate count PortCall.Gave ++ last) calls
+-- a port was asked for links and for nothing else: it gave so many, and behind the last of them came these calls
+abbrev pub GaveLinks : ℕ → List PortCall → Option (List PortCall) → Option (List PortCall) → Type 0
+GaveLinks count last calls calls_now = calls_now ≡ with_more (replicate count PortCall.Gave ++ last) calls
 
--- the same of a side that ended so: it took the links that the port gave
-abbrev pub AsksFor : Option (List PortCall) → Option (List PortCall) → Accepted → Type 0
-AsksFor calls calls_now (accepted.Ended count) = GaveLinks count calls calls_now
-AsksFor calls calls_now accepted.PortFault = (count : ℕ) × GaveLinks count calls calls_now
-AsksFor calls calls_now accepted.Left = (count : ℕ) × GaveLinks count calls calls_now
+-- a port gave all links that it was to be asked for and was asked for no more, or it gave fewer and then had ended
+abbrev pub GaveAll : ℕ → ℕ → Option (List PortCall) → Option (List PortCall) → Type 0
+GaveAll asked count calls calls_now =
+    ((count ≡ asked) × GaveLinks count [] calls calls_now) ⊎ ((count < asked) × GaveLinks count (PortCall.Ended ∷ []) calls calls_now)
+
+-- a port failed before it had given all links that it was to be asked for
+pub record GaveBeforeFault (asked : ℕ) (calls calls_now : Option (List PortCall)) : Type 0 where
+  pub count : ℕ
+  pub few : count < asked
+  pub gave : GaveLinks count (PortCall.Failed ∷ []) calls calls_now
+
+-- a port gave some of the links that it was to be asked for, and was asked for no more
+pub record GaveSome (asked : ℕ) (calls calls_now : Option (List PortCall)) : Type 0 where
+  pub count : ℕ
+  pub few : count ≤ asked
+  pub gave : GaveLinks count [] calls calls_now
+
+-- what a side that ended so, and was to take so many links, asked of the port
+abbrev pub AsksFor : ℕ → Option (List PortCall) → Option (List PortCall) → Accepted → Type 0
+AsksFor asked calls calls_now (accepted.Ended count) = GaveAll asked count calls calls_now
+AsksFor asked calls calls_now accepted.PortFault = GaveBeforeFault asked calls calls_now
+AsksFor asked calls calls_now accepted.Left = GaveSome asked calls calls_now

@@ -5,7 +5,8 @@ use Rattle.source_api.specs.declared.counts.Counts.{Counts}
 use Rattle.source_api.specs.Counting.{NoneFell}
 use Rattle.fetcher.specs.declared.slot.Slot.{Slot}
 use Rattle.tk_io.specs.Calls.{PortCall}
-use Rattle.query_server.specs.Accepting.{TookAll, TookSome, GaveLinks}
+use Rattle.query_server.specs.Accepting.{TookAll, TookSome, GaveAll, GaveBeforeFault, AsksFor}
+use Rattle.query_server.specs.declared.accepting.Accepted.{Accepted}
 use Rattle.query_server.specs.declared.server.Served.{Served}
 use Rattle.query_server.specs.declared.server.Served.TheVariants as served
 
@@ -21,8 +22,8 @@ ServesLinks asked links links_now faults faults_now (served.Ended count) = TookA
 ServesLinks asked links links_now faults faults_now served.PortFault = TookSome asked links links_now faults faults_now
 ServesLinks asked links links_now faults faults_now served.Memory = ⊤
 
--- a port was asked for the links that were taken, and for nothing else
-abbrev pub AsksForLinks : Option (List PortCall) → Option (List PortCall) → Served → Type 0
-AsksForLinks calls calls_now (served.Ended count) = GaveLinks count calls calls_now
-AsksForLinks calls calls_now served.PortFault = (count : ℕ) × GaveLinks count calls calls_now
-AsksForLinks calls calls_now served.Memory = (count : ℕ) × GaveLinks count calls calls_now
+-- a port was asked for so many links at most, and for nothing else; where memory was wanted the side with the port ended in one of its ways
+abbrev pub AsksForLinks : ℕ → Option (List PortCall) → Option (List PortCall) → Served → Type 0
+AsksForLinks asked calls calls_now (served.Ended count) = GaveAll asked count calls calls_now
+AsksForLinks asked calls calls_now served.PortFault = GaveBeforeFault asked calls calls_now
+AsksForLinks asked calls calls_now served.Memory = (how : Accepted) × AsksFor asked calls calls_now how

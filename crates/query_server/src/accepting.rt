@@ -59,7 +59,7 @@ fn accept_links<P: Port>(
 ) -> Accepted
     ensures accepts { Accepts conns (P.links port.old) (P.links port.new) (P.faults port.old) (P.faults port.new) result }
     ensures closed { P.closed port.new ≡ P.closed port.old }
-    ensures calls { AsksFor (P.calls port.old) (P.calls port.new) result }
+    ensures calls { AsksFor conns (P.calls port.old) (P.calls port.new) result }
 {
     let mut taken = 0;
     while taken < conns {
@@ -74,8 +74,8 @@ fn accept_links<P: Port>(
 }
 
 /// Takes at most so many links of a port, and puts each into the queue, which is ended behind the last. It ends before where the port
-/// has ended or failed, or where the queue was left. The port has to listen already, and is asked for nothing but its links. The call may
-/// wait for ever.
+/// has ended or failed, or where the queue was left. The port has to listen already, and is asked for nothing but its links, and for none once
+/// so many were taken or the port has ended or failed. The call may wait for ever.
 ///
 /// A link that is put into the queue is the business of who takes it: none is given back to the port.
 pub fn accept_all<P: Port>(
@@ -86,7 +86,7 @@ pub fn accept_all<P: Port>(
 ) -> Accepted
     ensures accepts { Accepts conns (P.links port.old) (P.links port.new) (P.faults port.old) (P.faults port.new) result }
     ensures closed { P.closed port.new ≡ P.closed port.old }
-    ensures calls { AsksFor (P.calls port.old) (P.calls port.new) result }
+    ensures calls { AsksFor conns (P.calls port.old) (P.calls port.new) result }
 {
     let accepted = accept_links(rt, port, queue, conns);
     queue.end(rt);

@@ -33,7 +33,7 @@ pub enum Served {
 fn accept_side<P: Port>(rt: &impl Wait, port: &mut P, queue: &LinkQueue<P::L>, conns: u64) -> Served
     ensures serves { ServesLinks conns (P.links port.old) (P.links port.new) (P.faults port.old) (P.faults port.new) result }
     ensures closed { P.closed port.new ≡ P.closed port.old }
-    ensures calls { AsksForLinks (P.calls port.old) (P.calls port.new) result }
+    ensures calls { AsksForLinks conns (P.calls port.old) (P.calls port.new) result }
 {
     match accept_all(rt, port, queue, conns) {
         Accepted::Ended { conns: taken } => Served::Ended { conns: taken },
@@ -69,7 +69,7 @@ pub fn serve_all<W: Threads + Wait + Sync, S: Source, P: Port>(
     requires empty { All (λ slot. slot.feeder ≡ None) sources.old }
     ensures serves { ServesLinks conns (P.links port.old) (P.links port.new) (P.faults port.old) (P.faults port.new) result }
     ensures closed { P.closed port.new ≡ P.closed port.old }
-    ensures calls { AsksForLinks (P.calls port.old) (P.calls port.new) result }
+    ensures calls { AsksForLinks conns (P.calls port.old) (P.calls port.new) result }
     ensures kept { KeepsSources S.list S.counts sources.old sources.new }
     ensures empty { All (λ slot. slot.feeder ≡ None) sources.new }
     ensures catalog { catalog.new.catalog ≡ catalog.old.catalog }

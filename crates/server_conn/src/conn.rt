@@ -1,7 +1,8 @@
 //! One connection of a query server.
 
-ghost use Rattle.std.specs.Prelude.{◌≡◌, true, codes, Some, option_copied, Err};
+ghost use Rattle.std.specs.Prelude.{◌≡◌, [], true, codes, Some, option_copied, Err};
 ghost use Rattle.std.specs.Str.{bytes_eq};
+ghost use Rattle.wire.specs.Sparing.{HoldsRequest, ReadsSparingly};
 ghost use Rattle.wire.specs.Writing.{has_reason, reply_text};
 ghost use Rattle.server_conn.specs.Entries.{view_in, MayAnswer};
 ghost use Rattle.query_run.specs.Advancing.{KnowsAll};
@@ -36,7 +37,8 @@ pub struct Turn {
     pub moved: bool,
 }
 
-/// Answers one request through a pass of the pool, and writes one reply. The request's body isn't read. The call may wait.
+/// Answers one request through a pass of the pool, and writes one reply. The request's body isn't read, and once its whole head has come no
+/// read is made. The call may wait.
 ///
 /// The first of these decides the status:
 /// 431 for a head with more bytes or lines than a request may have (`wire::read_request`); 400 for bytes
@@ -76,6 +78,7 @@ pub fn serve_conn<L: Link>(
       before = pass.old;
       now = pass.new;
     }) result }
+    ensures sparing { ReadsSparingly HoldsRequest [] (L.Intake.pieces link.old) (L.Intake.pieces link.new) }
 {
     match read_request(alloc, link) {
         Ok(head) => {
@@ -110,7 +113,7 @@ fn answer_head<L: Link>(
     ensures knows { KnowsAll pass.old pass.new }
     ensures remembers { Remembers (view_in catalog.now) pass.new answers.new }
     ensures apart { L.Sink.aside link.new ≡ L.Sink.aside link.old }
-    ensures incoming { (L.left link.new ≡ L.left link.old) × (L.Intake.faults link.new ≡ L.Intake.faults link.old) }
+    ensures incoming { (L.left link.new ≡ L.left link.old) × (L.Intake.faults link.new ≡ L.Intake.faults link.old) × (L.Intake.pieces link.new ≡ L.Intake.pieces link.old) }
     ensures replied { IsRepliedTo (view_in catalog.now) head.now.method.items head.now.target.items pass.old pass.new
         (L.held link.old) (L.held link.new) (L.Sink.faults link.old) (L.Sink.faults link.new) result }
 {
@@ -153,7 +156,7 @@ fn answer_line<L: Link>(
     ensures knows { KnowsAll pass.old pass.new }
     ensures remembers { Remembers (view_in catalog.now) pass.new answers.new }
     ensures apart { L.Sink.aside link.new ≡ L.Sink.aside link.old }
-    ensures incoming { (L.left link.new ≡ L.left link.old) × (L.Intake.faults link.new ≡ L.Intake.faults link.old) }
+    ensures incoming { (L.left link.new ≡ L.left link.old) × (L.Intake.faults link.new ≡ L.Intake.faults link.old) × (L.Intake.pieces link.new ≡ L.Intake.pieces link.old) }
     ensures replied { IsLineReplied (view_in catalog.now) line.now is_head pass.old pass.new
         (L.held link.old) (L.held link.new) (L.Sink.faults link.old) (L.Sink.faults link.new) result }
 {
@@ -178,7 +181,7 @@ fn answer_line<L: Link>(
 /// Writes the reply of a refusal, which has no body where the method is HEAD.
 fn refuse<L: Link>(link: &mut L, why: Refusal, is_head: bool) -> Turn
     ensures apart { L.Sink.aside link.new ≡ L.Sink.aside link.old }
-    ensures incoming { (L.left link.new ≡ L.left link.old) × (L.Intake.faults link.new ≡ L.Intake.faults link.old) }
+    ensures incoming { (L.left link.new ≡ L.left link.old) × (L.Intake.faults link.new ≡ L.Intake.faults link.old) × (L.Intake.pieces link.new ≡ L.Intake.pieces link.old) }
     ensures sends { SendsAnswer is_head (Err why) (L.held link.old) (L.held link.new) (L.Sink.faults link.old) (L.Sink.faults link.new) result }
 {
     Turn {
@@ -191,7 +194,7 @@ fn refuse<L: Link>(link: &mut L, why: Refusal, is_head: bool) -> Turn
 fn send<L: Link>(link: &mut L, status: u16, body: Option<&[u8]>) -> ConnEnd
     requires { has_reason status ≡ true }
     ensures apart { L.Sink.aside link.new ≡ L.Sink.aside link.old }
-    ensures incoming { (L.left link.new ≡ L.left link.old) × (L.Intake.faults link.new ≡ L.Intake.faults link.old) }
+    ensures incoming { (L.left link.new ≡ L.left link.old) × (L.Intake.faults link.new ≡ L.Intake.faults link.old) × (L.Intake.pieces link.new ≡ L.Intake.pieces link.old) }
     ensures sends { Sends (L.held link.old) (L.held link.new) (L.Sink.faults link.old) (L.Sink.faults link.new)
         status (reply_text status Kind.Text (option_copied body.entry)) result }
 {

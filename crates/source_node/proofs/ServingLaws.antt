@@ -3,6 +3,7 @@ use Rattle.std.proofs.Common.{◌≡◌, ◌≤◌, Bool, true, false, Ok, ◌+�
 use Rattle.std.proofs.lemmas.List.{append-nil}
 use Rattle.std.specs.Io.KnownBytes.{IsAtEnd}
 use Rattle.tk_io.specs.Calls.{PortCall, with_more}
+use Rattle.tk_io.proofs.Calling.{calls_then}
 use Rattle.tk_io.specs.Links.{Closed, ClosesOne, GivesFirst, HasNone, IsFresh}
 use Rattle.source_node.specs.Connections.{Ends}
 use Rattle.source_node.specs.Serving.{Seen}
@@ -37,10 +38,6 @@ closes_none (Some closed) = sym (append-nil closed)
 calls_none : (calls : Option (List PortCall)) → calls ≡ with_more [] calls
 calls_none None = refl
 calls_none (Some calls) = ap Some (sym (append-nil calls))
-
-pub calls_then : (made more : List PortCall) (calls : Option (List PortCall)) → with_more more (with_more made calls) ≡ with_more (made ++ more) calls
-calls_then made more None = refl
-calls_then made more (Some calls) = ap Some (append_assoc calls made more)
 
 turns_more : (ones : List Closed) (one : Closed) → turns (ones ++ one ∷ []) ++ [] ≡ (turns ones ++ []) ++ PortCall.Gave ∷ PortCall.TookBack ∷ []
 turns_more [] one = refl
@@ -85,11 +82,11 @@ none_more name version before mid now source after source_now count call served 
 }
 
 -- the connection of a fresh link, by the counts that it had
-pub served_fresh : (name : List ℕ) (version : Option ℕ) (came held : Option (List ℕ)) (read_faults write_faults : ℕ) (one : Closed) (source source_now : Seen) (end : ConnEnd)
-    → IsFresh held read_faults write_faults
+pub served_fresh : (name : List ℕ) (version : Option ℕ) (came held : Option (List ℕ)) (read_faults write_faults : ℕ) (pieces : Option (List (List ℕ))) (one : Closed) (source source_now : Seen) (end : ConnEnd)
+    → IsFresh held read_faults write_faults pieces
     → Ends name version (record (visit_of came held one source source_now) { read_faults = read_faults; write_faults = write_faults }) end
     → Ends name version (visit_of came held one source source_now) end
-served_fresh name version came held read_faults write_faults one source source_now end fresh ends =
+served_fresh name version came held read_faults write_faults pieces one source source_now end fresh ends =
     subst (λ r. Ends name version (record (visit_of came held one source source_now) { read_faults = r; write_faults = 0 }) end) fresh.reads
     (subst (λ w. Ends name version (record (visit_of came held one source source_now) { read_faults = read_faults; write_faults = w }) end) fresh.writes ends)
 
@@ -110,6 +107,7 @@ first_served name version before mid now came held source source_now first unuse
     unused = unused;
     end = serves.end;
     ends = serves.ends;
+    sparing = serves.sparing;
   };
   quiet = quiet ∙ faults;
 }

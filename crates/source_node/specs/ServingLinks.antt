@@ -4,6 +4,7 @@ use Rattle.std.specs.Io.KnownBytes.{IsAtEnd}
 use Rattle.tk_io.specs.Calls.{PortCall, with_more}
 use Rattle.tk_io.specs.Faults.{Rose}
 use Rattle.tk_io.specs.Links.{Closed, ClosesOne, GivesFirst, HasNone}
+use Rattle.wire.specs.Sparing.{HoldsRequest, WasReadSparingly}
 use Rattle.source_node.specs.Connections.{Ends, Visit}
 use Rattle.source_node.specs.Serving.{Seen}
 use Rattle.source_node.specs.declared.node.ConnEnd.{ConnEnd}
@@ -36,7 +37,7 @@ visit_of came held one source source_now = record {
   source_now = source_now;
 }
 
--- the first link to come was taken and served, and this is left of it: its connection ended as one of a node does
+-- the first link to come was taken and served, and this is left of it: its connection ended as one of a node does, and was read no further than its request
 pub record ServesLink (name : List ℕ) (version : Option ℕ) (links links_now : Option (List (List ℕ))) (source source_now : Seen) (one : Closed) : Type 0 where
   pub came : Option (List ℕ)
   pub held : Option (List ℕ)
@@ -44,6 +45,7 @@ pub record ServesLink (name : List ℕ) (version : Option ℕ) (links links_now 
   pub unused : IsAtEnd held
   pub end : ConnEnd
   pub ends : Ends name version (visit_of came held one source source_now) end
+  pub sparing : WasReadSparingly HoldsRequest one.pieces
 
 -- links were served one after another, and these are left of them
 abbrev pub ServesEach : List ℕ → Option ℕ → Option (List (List ℕ)) → Option (List (List ℕ)) → Seen → Seen → List Closed → Type 0
@@ -91,13 +93,14 @@ abbrev pub EndsServing : List ℕ → Option ℕ → ℕ → PortAt → PortAt �
 EndsServing name version asked before now source source_now (Ended count) = ServedAll name version asked before now source source_now count
 EndsServing name version asked before now source source_now PortFault = ServedSome name version asked before now source source_now
 
--- a link that was given was served and given back
+-- a link that was given was served and given back, and was read no further than its request
 pub record ServesOne (name : List ℕ) (version : Option ℕ) (came held : Option (List ℕ)) (closed closed_now : Option (List Closed))
     (source source_now : Seen) : Type 0 where
   pub one : Closed
   pub given_back : ClosesOne closed closed_now one
   pub end : ConnEnd
   pub ends : Ends name version (visit_of came held one source source_now) end
+  pub sparing : WasReadSparingly HoldsRequest one.pieces
 
 -- the next link was taken, served and given back, and no other was asked for
 pub record ServesFirst (name : List ℕ) (version : Option ℕ) (before now : PortAt) (source source_now : Seen) : Type 0 where

@@ -1,9 +1,10 @@
 //! One connection of a node.
 
-ghost use Rattle.std.specs.Prelude.{◌≡◌, true, codes, Ok, Err, option_copied};
+ghost use Rattle.std.specs.Prelude.{◌≡◌, [], true, codes, Ok, Err, option_copied};
 ghost use Rattle.std.specs.Str.{bytes_eq};
 ghost use Rattle.std.specs.Option.{unwrap_or};
 ghost use Rattle.std.specs.Result.{result_map_both};
+ghost use Rattle.wire.specs.Sparing.{HoldsRequest, ReadsSparingly};
 ghost use Rattle.wire.specs.Writing.{has_reason, reply_text};
 ghost use Rattle.source_api.specs.Counting.{NoneFell};
 ghost use Rattle.source_node.specs.Asking.{HasCount};
@@ -30,7 +31,8 @@ pub enum ConnEnd {
     Memory,
 }
 
-/// Serves one request on the list of this name, and writes one reply. The request's body isn't read.
+/// Serves one request on the list of this name, and writes one reply. The request's body isn't read, and once its whole head has come
+/// no read is made.
 ///
 /// The first of these decides the status:
 /// 431 for a head with more bytes or lines than a request may have (`wire::read_request`); 400 for bytes
@@ -64,6 +66,7 @@ pub fn node_conn<S: Source, L: Link>(
       source = seen (S.list source.old) (S.counts source.old) (S.calls source.old) (S.at_hand source.old) (S.states source.old);
       source_now = seen (S.list source.new) (S.counts source.new) (S.calls source.new) (S.at_hand source.new) (S.states source.new);
     }) result }
+    ensures sparing { ReadsSparingly HoldsRequest [] (L.Intake.pieces link.old) (L.Intake.pieces link.new) }
 {
     match read_request(alloc, link) {
         Ok(head) => {
@@ -91,7 +94,7 @@ fn answer_head<S: Source, L: Link>(
     ensures states { S.states source.new ≡ S.states source.old }
     ensures later { NoneFell (S.counts source.old) (S.counts source.new) }
     ensures apart { L.Sink.aside link.new ≡ L.Sink.aside link.old }
-    ensures incoming { (L.left link.new ≡ L.left link.old) × (L.Intake.faults link.new ≡ L.Intake.faults link.old) }
+    ensures incoming { (L.left link.new ≡ L.left link.old) × (L.Intake.faults link.new ≡ L.Intake.faults link.old) × (L.Intake.pieces link.new ≡ L.Intake.pieces link.old) }
     ensures replied { IsRepliedTo name.now version head.now.method.items head.now.target.items
         (seen (S.list source.old) (S.counts source.old) (S.calls source.old) (S.at_hand source.old) (S.states source.old))
         (seen (S.list source.new) (S.counts source.new) (S.calls source.new) (S.at_hand source.new) (S.states source.new))
@@ -177,7 +180,7 @@ fn stated_version(told: Option<u64>, at_hand: u64) -> u64
 /// Writes the reply of a refusal, which has no body where the method is HEAD.
 fn refuse<L: Link>(link: &mut L, why: Refusal, is_head: bool) -> ConnEnd
     ensures apart { L.Sink.aside link.new ≡ L.Sink.aside link.old }
-    ensures incoming { (L.left link.new ≡ L.left link.old) × (L.Intake.faults link.new ≡ L.Intake.faults link.old) }
+    ensures incoming { (L.left link.new ≡ L.left link.old) × (L.Intake.faults link.new ≡ L.Intake.faults link.old) × (L.Intake.pieces link.new ≡ L.Intake.pieces link.old) }
     ensures sends { Sends (L.held link.old) (L.held link.new) (L.Sink.faults link.old) (L.Sink.faults link.new)
         (status_of why) (reply_text (status_of why) Kind.Text (body_of is_head why)) result }
 {
@@ -188,7 +191,7 @@ fn refuse<L: Link>(link: &mut L, why: Refusal, is_head: bool) -> ConnEnd
 fn send<L: Link>(link: &mut L, status: u16, kind: Kind, body: Option<&[u8]>) -> ConnEnd
     requires { has_reason status ≡ true }
     ensures apart { L.Sink.aside link.new ≡ L.Sink.aside link.old }
-    ensures incoming { (L.left link.new ≡ L.left link.old) × (L.Intake.faults link.new ≡ L.Intake.faults link.old) }
+    ensures incoming { (L.left link.new ≡ L.left link.old) × (L.Intake.faults link.new ≡ L.Intake.faults link.old) × (L.Intake.pieces link.new ≡ L.Intake.pieces link.old) }
     ensures sends { Sends (L.held link.old) (L.held link.new) (L.Sink.faults link.old) (L.Sink.faults link.new)
         status (reply_text status kind (option_copied body.entry)) result }
 {

@@ -93,7 +93,7 @@ fn serve_link<S: Source, P: Port>(
     mut link: P::L,
 )
     requires out { P.may_close port.old }
-    requires fresh { IsFresh (P.L.held link) (P.L.Intake.faults link) (P.L.Sink.faults link) }
+    requires fresh { IsFresh (P.L.held link) (P.L.Intake.faults link) (P.L.Sink.faults link) (P.L.Intake.pieces link) }
     ensures list { S.list source.new ≡ S.list source.old }
     ensures states { S.states source.new ≡ S.states source.old }
     ensures later { NoneFell (S.counts source.old) (S.counts source.new) }

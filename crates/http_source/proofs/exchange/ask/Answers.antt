@@ -31,8 +31,9 @@ returns-clause-link g c =
       taken = g.D.L.Sink.held c.talk-reply.new.link;
       read_faults = g.D.L.Intake.faults c.talk-reply.new.link;
       write_faults = g.D.L.Sink.faults c.talk-reply.new.link;
+      pieces = g.D.L.Intake.pieces c.talk-reply.new.link;
     } in
     let closes : ClosesOne (g.D.Dial.closed c.args.dial.now) (g.D.Dial.closed c.hang_up.new.self) one =
     subst (λ (closed : Option (List Closed)). ClosesOne closed (g.D.Dial.closed c.hang_up.new.self) one) c.in-Ok.ensures.closed c.hang_up.ensures.closed in
     rw c.body_in.ensures
-    (link_of _ _ _ _ _ _ _ _ one c.talk-reply.result c.in-Ok.ensures.given c.talk-reply.ensures.took c.hang_up.ensures.links closes)
+    (link_of _ _ _ _ _ _ _ _ one c.talk-reply.result c.in-Ok.ensures.given c.talk-reply.ensures.took c.hang_up.ensures.links closes c.talk-reply.ensures.sparing)

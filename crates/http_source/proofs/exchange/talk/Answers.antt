@@ -1,4 +1,7 @@
-use Rattle.std.proofs.Common.{◌∙◌}
+use Rattle.std.proofs.Common.{[], ◌∙◌, sym, subst}
+use Rattle.tk_io.specs.Links.{IsUnread}
+use Rattle.wire.specs.Sparing.{HoldsResponse}
+use Rattle.wire.proofs.SparingLaws.{sparing_fresh, unread_sparing}
 use Rattle.http_source.proofs.TalkLaws.{took_all, counts_reads, took_front, counts_writes}
 use Rattle.http_source.proofs.exchange.talk.Goals as goal
 
@@ -15,3 +18,11 @@ returns-in-Err-clause-took g c = took_front _ _ _ c.in-Err.fault c.in-Err.ensure
 
 pub returns-in-Err-clause-cause : goal.returns-in-Err-clause-cause
 returns-in-Err-clause-cause g c = counts_writes _ _ _ c.in-Err.fault c.in-Err.ensures.fault c.requires.writes c.in-Err.ensures.writes.cause.failed
+
+pub returns-in-Ok-clause-sparing : goal.returns-in-Ok-clause-sparing
+returns-in-Ok-clause-sparing g c =
+    sparing_fresh HoldsResponse (g.L.Intake.pieces c.write_request.new.link) (g.L.Intake.pieces c.read_response.new.link)
+    (subst IsUnread (sym c.in-Ok.ensures.incoming.2) c.requires.unread) c.read_response.ensures.sparing
+
+pub returns-in-Err-clause-sparing : goal.returns-in-Err-clause-sparing
+returns-in-Err-clause-sparing g c = unread_sparing HoldsResponse (g.L.Intake.pieces c.write_request.new.link) (subst IsUnread (sym c.in-Err.ensures.incoming.2) c.requires.unread)

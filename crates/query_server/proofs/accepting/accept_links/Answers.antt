@@ -1,4 +1,4 @@
-use Rattle.std.proofs.Common.{◌+◌, ◌≤◌, ◌∙◌, arith, inl, inr, refl}
+use Rattle.std.proofs.Common.{◌≡◌, ◌+◌, ◌<◌, ◌≤◌, ◌∙◌, arith, inl, inr}
 use Rattle.tk_io.specs.Calls.{PortCall}
 use Rattle.query_server.proofs.TakingLaws.{took_more, gave_more, gave_all, gave_last}
 use Rattle.query_server.proofs.accepting.accept_links.Goals as goal
@@ -28,20 +28,35 @@ returns-in-Left-clause-accepts g c =
     }
 
 pub returns-in-Left-clause-calls : goal.returns-in-Left-clause-calls
-returns-in-Left-clause-calls g c = (
-  c.loop-taken.taken + 1,
-  gave_all (g.P.Port.calls c.args.port.now) (g.P.Port.calls c.accept_next.new.port) (c.loop-taken.taken + 1)
-      (gave_more (g.P.Port.calls c.args.port.now) (g.P.Port.calls c.loop-taken.port) (g.P.Port.calls c.accept_next.new.port) c.loop-taken.taken c.loop-taken.invariant.4 c.in-Left.ensures.calls),
-)
+returns-in-Left-clause-calls g c =
+    let few : c.loop-taken.taken + 1 ≤ c.args.conns = omega arith in
+    record {
+      count = c.loop-taken.taken + 1;
+      few = few;
+      gave = gave_all (g.P.Port.calls c.args.port.now) (g.P.Port.calls c.accept_next.new.port) (c.loop-taken.taken + 1)
+          (gave_more (g.P.Port.calls c.args.port.now) (g.P.Port.calls c.loop-taken.port) (g.P.Port.calls c.accept_next.new.port) c.loop-taken.taken c.loop-taken.invariant.4 c.in-Left.ensures.calls);
+    }
 
 pub returns-in-Ended-clause-calls : goal.returns-in-Ended-clause-calls
 returns-in-Ended-clause-calls g c =
-    gave_last (g.P.Port.calls c.args.port.now) (g.P.Port.calls c.loop-taken.port) (g.P.Port.calls c.accept_next.new.port) c.loop-taken.taken PortCall.Ended (inl refl)
-    c.loop-taken.invariant.4 c.in-Ended.ensures.calls
+    let few : c.loop-taken.taken < c.args.conns = omega arith in
+    inr (
+      few,
+      gave_last (g.P.Port.calls c.args.port.now) (g.P.Port.calls c.loop-taken.port) (g.P.Port.calls c.accept_next.new.port) c.loop-taken.taken PortCall.Ended
+          c.loop-taken.invariant.4 c.in-Ended.ensures.calls,
+    )
 
 pub returns-in-Failed-clause-calls : goal.returns-in-Failed-clause-calls
-returns-in-Failed-clause-calls g c = (
-  c.loop-taken.taken,
-  gave_last (g.P.Port.calls c.args.port.now) (g.P.Port.calls c.loop-taken.port) (g.P.Port.calls c.accept_next.new.port) c.loop-taken.taken PortCall.Failed (inr refl)
-      c.loop-taken.invariant.4 c.in-Failed.ensures.calls,
-)
+returns-in-Failed-clause-calls g c =
+    let few : c.loop-taken.taken < c.args.conns = omega arith in
+    record {
+      count = c.loop-taken.taken;
+      few = few;
+      gave = gave_last (g.P.Port.calls c.args.port.now) (g.P.Port.calls c.loop-taken.port) (g.P.Port.calls c.accept_next.new.port) c.loop-taken.taken PortCall.Failed
+          c.loop-taken.invariant.4 c.in-Failed.ensures.calls;
+    }
+
+pub returns-clause-calls : goal.returns-clause-calls
+returns-clause-calls g c =
+    let all : c.loop-taken.taken ≡ c.args.conns = omega (arith, c.loop-taken.invariant.1) in
+    inl (all, gave_all (g.P.Port.calls c.args.port.now) (g.P.Port.calls c.loop-taken.port) c.loop-taken.taken c.loop-taken.invariant.4)

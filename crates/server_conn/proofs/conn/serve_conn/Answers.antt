@@ -1,4 +1,6 @@
-use Rattle.std.proofs.Common.{Ok, Err, refl, subst, ◌∙◌}
+use Rattle.std.proofs.Common.{[], Ok, Err, refl, subst, ◌∙◌}
+use Rattle.wire.specs.Sparing.{HoldsRequest}
+use Rattle.wire.proofs.SparingLaws.{sparing_kept}
 use Rattle.wire.specs.LinkTold.{Counts}
 use Rattle.wire.specs.declared.request.Head.{Head}
 use Rattle.wire.specs.declared.fault.WireFault.{WireFault}
@@ -110,3 +112,23 @@ returns-in-Err-LinkFault-clause-ends g c =
     unread (view_in c.args.catalog.now) visit _ refl
     (subst (λ (f : WireFault). Counts {T = Head} visit.read_faults visit.read_faults_now (Err f)) c.in-Err-LinkFault.field-0-is c.in-Err-LinkFault.ensures.cause)
     c.read_request.ensures.outgoing.0 c.read_request.ensures.outgoing.1 refl
+
+pub returns-in-Ok-clause-sparing : goal.returns-in-Ok-clause-sparing
+returns-in-Ok-clause-sparing g c =
+    sparing_kept HoldsRequest [] (g.L.Intake.pieces c.args.link.now) (g.L.Intake.pieces c.read_request.new.link) (g.L.Intake.pieces c.answer_head-turn.new.link)
+    c.read_request.ensures.sparing c.answer_head-turn.ensures.incoming.2
+
+pub returns-in-Err-BadMessage-clause-sparing : goal.returns-in-Err-BadMessage-clause-sparing
+returns-in-Err-BadMessage-clause-sparing g c =
+    sparing_kept HoldsRequest [] (g.L.Intake.pieces c.args.link.now) (g.L.Intake.pieces c.read_request.new.link) (g.L.Intake.pieces c.refuse.new.link)
+    c.read_request.ensures.sparing c.refuse.ensures.incoming.2
+
+pub returns-in-Err-TooLong-clause-sparing : goal.returns-in-Err-TooLong-clause-sparing
+returns-in-Err-TooLong-clause-sparing g c =
+    sparing_kept HoldsRequest [] (g.L.Intake.pieces c.args.link.now) (g.L.Intake.pieces c.read_request.new.link) (g.L.Intake.pieces c.refuse-in-Err-TooLong.new.link)
+    c.read_request.ensures.sparing c.refuse-in-Err-TooLong.ensures.incoming.2
+
+pub returns-in-Err-Memory-clause-sparing : goal.returns-in-Err-Memory-clause-sparing
+returns-in-Err-Memory-clause-sparing g c =
+    sparing_kept HoldsRequest [] (g.L.Intake.pieces c.args.link.now) (g.L.Intake.pieces c.read_request.new.link) (g.L.Intake.pieces c.refuse-in-Err-Memory.new.link)
+    c.read_request.ensures.sparing c.refuse-in-Err-Memory.ensures.incoming.2

@@ -1,4 +1,6 @@
-use Rattle.std.proofs.Common.{Ok, refl, ◌∙◌}
+use Rattle.std.proofs.Common.{[], Ok, refl, ◌∙◌}
+use Rattle.wire.specs.Sparing.{HoldsRequest}
+use Rattle.wire.proofs.SparingLaws.{sparing_kept}
 use Rattle.source_node.specs.Connections.{Visit}
 use Rattle.source_node.specs.Serving.{seen}
 use Rattle.source_node.proofs.EndLaws.{replied, bad_heard, long_heard}
@@ -56,3 +58,18 @@ returns-in-Err-TooLong-clause-ends g c =
     (g.L.Intake.faults c.read_request.new.link) c.in-Err-TooLong.field-0 c.refuse-in-Err-TooLong.result c.in-Err-TooLong.field-0-is
     c.in-Err-TooLong.ensures.answers c.in-Err-TooLong.ensures.cause c.refuse-in-Err-TooLong.ensures.incoming.1 c.read_request.ensures.outgoing.0
     c.read_request.ensures.outgoing.1 refl c.refuse-in-Err-TooLong.ensures.sends
+
+pub returns-in-Ok-clause-sparing : goal.returns-in-Ok-clause-sparing
+returns-in-Ok-clause-sparing g c =
+    sparing_kept HoldsRequest [] (g.L.Intake.pieces c.args.link.now) (g.L.Intake.pieces c.read_request.new.link) (g.L.Intake.pieces c.answer_head-end.new.link)
+    c.read_request.ensures.sparing c.answer_head-end.ensures.incoming.2
+
+pub returns-in-Err-BadMessage-clause-sparing : goal.returns-in-Err-BadMessage-clause-sparing
+returns-in-Err-BadMessage-clause-sparing g c =
+    sparing_kept HoldsRequest [] (g.L.Intake.pieces c.args.link.now) (g.L.Intake.pieces c.read_request.new.link) (g.L.Intake.pieces c.refuse.new.link)
+    c.read_request.ensures.sparing c.refuse.ensures.incoming.2
+
+pub returns-in-Err-TooLong-clause-sparing : goal.returns-in-Err-TooLong-clause-sparing
+returns-in-Err-TooLong-clause-sparing g c =
+    sparing_kept HoldsRequest [] (g.L.Intake.pieces c.args.link.now) (g.L.Intake.pieces c.read_request.new.link) (g.L.Intake.pieces c.refuse-in-Err-TooLong.new.link)
+    c.read_request.ensures.sparing c.refuse-in-Err-TooLong.ensures.incoming.2

@@ -16,7 +16,7 @@ returns-in-Ok-Some-clause-serves g c =
     let came = g.P.L.Intake.left c.in-Ok-Some.link in
     let held = g.P.L.Sink.held c.in-Ok-Some.link in
     let given : GivesFirst (g.P.Port.links c.args.port.now) (g.P.Port.links c.accept.new.self) came held = search rules in
-    let fresh : IsFresh held (g.P.L.Intake.faults c.in-Ok-Some.link) (g.P.L.Sink.faults c.in-Ok-Some.link) = search rules in
+    let fresh : IsFresh held (g.P.L.Intake.faults c.in-Ok-Some.link) (g.P.L.Sink.faults c.in-Ok-Some.link) (g.P.L.Intake.pieces c.in-Ok-Some.link) = search rules in
     let gave : g.P.Port.calls c.accept.new.self ≡ with_more (PortCall.Gave ∷ []) (g.P.Port.calls c.args.port.now) =
     subst (λ (call : PortCall). g.P.Port.calls c.accept.new.self ≡ with_more (call ∷ []) (g.P.Port.calls c.args.port.now)) (ap accepted (c.in-Ok-Some.is ∙ ap Ok c.in-Ok-Some.field-0-is)) c.accept.ensures.calls in
     first_served c.args.name.now c.args.version before mid now came held source source_now given fresh.taken c.in-Ok-Some.ensures.closed
