@@ -128,7 +128,7 @@ module _ {S : Type 0} where
 
 module _ {S : Type 0} (list : S → Option (List Row)) (counts : S → Counts) (calls : S → Option (List Call)) (at_hand : S → ℕ) (states : S → Option ℕ) where
   -- what was served at a slot is what a fetcher does
-  fetches_of : (pool : List TableId) (settings : Settings) (before now : Slot S) → IsServed list counts calls at_hand states pool settings.page settings.ahead before now
+  pub fetches_of : (pool : List TableId) (settings : Settings) (before now : Slot S) → IsServed list counts calls at_hand states pool settings.page settings.ahead before now
       → Fetches pool settings (state_of list counts at_hand before) (state_of list counts at_hand now)
   fetches_of pool settings before now s = record {
     feed = s.feed;

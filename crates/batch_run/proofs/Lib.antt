@@ -6,7 +6,7 @@ pub mod ShareLaws
 pub mod Picks
 pub mod Zips
 pub mod WorkLaws
--- Lemmas on who has passes to the posts.
+-- Lemmas on who has passes to the posts, and on what was served at a slot.
 pub mod HandLaws
 -- Lemmas on a crew: its workers, what the fetchers did of the slots, and passes that are joined.
 pub mod CrewLaws
