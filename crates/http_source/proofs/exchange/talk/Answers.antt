@@ -1,4 +1,4 @@
-use Rattle.std.proofs.Common.{[], ◌∙◌, sym, subst}
+use Rattle.std.proofs.Common.{◌∙◌, sym, subst}
 use Rattle.tk_io.specs.Links.{IsUnread}
 use Rattle.wire.specs.Sparing.{HoldsResponse}
 use Rattle.wire.proofs.SparingLaws.{sparing_fresh, unread_sparing}

@@ -26,12 +26,5 @@ loop-served-preserved g c =
 
 pub returns-in-Ok-false-clause-ends : goal.returns-in-Ok-false-clause-ends
 returns-in-Ok-false-clause-ends g c =
-    let before = port_as g.P.Port.links g.P.Port.closed g.P.Port.faults g.P.Port.calls c.args.port.now in
-    let mid = port_as g.P.Port.links g.P.Port.closed g.P.Port.faults g.P.Port.calls c.loop-served.port in
-    let now = port_as g.P.Port.links g.P.Port.closed g.P.Port.faults g.P.Port.calls c.serve_next.new.port in
-    let source = seen (g.S.Source.list c.args.source.now) (g.S.Source.counts c.args.source.now) (g.S.Source.calls c.args.source.now) (g.S.Source.at_hand c.args.source.now) (g.S.Source.states c.args.source.now) in
-    let after = seen (g.S.Source.list c.loop-served.source) (g.S.Source.counts c.loop-served.source) (g.S.Source.calls c.loop-served.source) (g.S.Source.at_hand c.loop-served.source) (g.S.Source.states c.loop-served.source) in
-    let source_now = seen (g.S.Source.list c.serve_next.new.source) (g.S.Source.counts c.serve_next.new.source) (g.S.Source.calls c.serve_next.new.source) (g.S.Source.at_hand c.serve_next.new.source) (g.S.Source.states c.serve_next.new.source) in
-    let none = none_came Failed c.args.name.now c.args.version mid now after source_now c.in-Ok-false.field-0 c.in-Ok-false.field-0-test c.in-Ok-false.ensures.serves in
-    all_that_came c.args.name.now c.args.version c.args.conns before mid now source after source_now c.loop-served.served c.loop-served.invariant.3 c.loop-served.invariant.4
-    c.loop-served.invariant.5 none
+    let none = none_came Failed c.args.name.now c.args.version _ _ _ _ c.in-Ok-false.field-0 c.in-Ok-false.field-0-test c.in-Ok-false.ensures.serves in
+    all_that_came c.args.name.now c.args.version c.args.conns _ _ _ _ _ _ c.loop-served.served c.loop-served.invariant.3 c.loop-served.invariant.4 c.loop-served.invariant.5 none
