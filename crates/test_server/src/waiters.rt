@@ -47,7 +47,7 @@ impl Intake for Waiter {
 
     ghost faults = { λ l. l.read_faults };
 
-    ghost aside = { λ l. record { bytes = None; faults = l.write_faults } };
+    ghost aside = { λ l. record { bytes = None; faults = l.write_faults; pieces = None } };
 
     /// Reads as the link in memory does, once the other one was dropped.
     fn read(&mut self, into: &mut [u8]) -> Result<usize, Failed> {
@@ -70,7 +70,7 @@ impl Sink for Waiter {
 
     ghost faults = { λ l. l.write_faults };
 
-    ghost aside = { λ l. record { bytes = None; faults = l.read_faults } };
+    ghost aside = { λ l. record { bytes = None; faults = l.read_faults; pieces = None } };
 
     /// Writes as the link in memory does.
     fn write(&mut self, bytes: &[u8]) -> Result<usize, Failed> {
