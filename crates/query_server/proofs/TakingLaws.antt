@@ -66,7 +66,3 @@ pub asked_some : (asked : ℕ) (calls now : Option (List PortCall)) (result : Se
 asked_some asked calls now (served.Ended count) asks = (accepted.Ended count, asks)
 asked_some asked calls now served.PortFault asks = (accepted.PortFault, asks)
 asked_some asked calls now served.Memory asks = asks
-
--- no link was asked for
-pub asked_none : (asked : ℕ) (calls : Option (List PortCall)) → AsksForLinks asked calls calls served.Memory
-asked_none asked calls = (accepted.Left, record { count = 0; few = omega arith; gave = gave_all calls calls 0 (gave_none calls) })

@@ -54,6 +54,7 @@ fn accept_side<P: Port>(rt: &impl Wait, port: &mut P, queue: &LinkQueue<P::L>, c
 /// generation is asked again in the next.
 ///
 /// *Cost*: the queue, and for each generation a pool and a pass for each worker.
+#[tactic(auto, using(crate::proofs::TakingLaws::asked_some))]
 pub fn serve_all<W: Threads + Wait + Sync, S: Source, P: Port>(
     rt: &W,
     alloc: Global,
