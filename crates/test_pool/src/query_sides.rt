@@ -4,7 +4,7 @@ ghost use Rattle.std.specs.Prelude.{◌≤◌, ◌∷◌, []};
 ghost use Rattle.source_pool.specs.Passes.{IsIdleOf};
 ghost use Rattle.test_query_support.specs.Pairs.{IsPair};
 ghost use Rattle.query_run.specs.Made.{IsReadyFor};
-ghost use Rattle.test_query_run.specs.Running.{MayRun};
+ghost use Rattle.test_pool.specs.Running.{MayRun};
 
 use fetcher::Stop;
 use query_core::Ready;

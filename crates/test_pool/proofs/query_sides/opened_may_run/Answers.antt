@@ -1,5 +1,5 @@
-use Rattle.test_query_run.proofs.Readying.{may_run, first_idle, second_idle}
-use Rattle.test_query_run.proofs.sides.opened_may_run.Goals as goal
+use Rattle.test_pool.proofs.Readying.{may_run, first_idle, second_idle}
+use Rattle.test_pool.proofs.query_sides.opened_may_run.Goals as goal
 
 pub returns-clause-may : goal.returns-clause-may
 returns-clause-may c = may_run c.args.count c.args.pair.now c.args.ready.now c.requires.pair c.requires.ready

@@ -3,7 +3,7 @@
 ghost use Rattle.std.specs.Prelude.{◌≤◌, ◌∷◌, [], All};
 ghost use Rattle.query_run.specs.Made.{IsReadyFor};
 
-use super::sides::ends_beside;
+use super::query_sides::ends_beside;
 use query_core::Ready;
 use std::alloc::Global;
 use std::sync::Wait;

@@ -1,6 +1,6 @@
-//! Rows that were worked out by hand.
+//! Queries over rows that were worked out by hand.
 
-use super::cases::{Case, first_wrong};
+use super::query_cases::{Case, first_wrong};
 use machine_base::CoreFault;
 use source_api::FailKind;
 use source_state::{LookFault, SourceFault};

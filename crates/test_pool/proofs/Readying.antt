@@ -7,7 +7,7 @@ use Rattle.query_run.specs.Made.{IsReadyFor}
 use Rattle.query_run.proofs.Opening.{opened_rests, opened_sources}
 use Rattle.test_query_support.specs.declared.pair.Pair.{Pair}
 use Rattle.test_query_support.specs.Pairs.{IsPair}
-use Rattle.test_query_run.specs.Running.{MayRun}
+use Rattle.test_pool.specs.Running.{MayRun}
 
 pub may_run : (count : ℕ) (pair : Pair) (ready : Ready) → IsPair count pair → IsReadyFor (count ∷ count ∷ []) ready → MayRun pair.pool pair.pass ready
 may_run count pair ready is for = record {

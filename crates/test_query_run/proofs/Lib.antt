@@ -1,2 +1,0 @@
--- Lemmas on runs of one query over two sources.
-pub mod Readying
