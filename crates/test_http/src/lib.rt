@@ -1,4 +1,4 @@
-//! Tests of what is below HTTP sources, by the public calls: links, messages, and the JSON bodies of a list's replies.
+//! Tests of HTTP messages and of the links that bring them, by the public calls.
 //!
 //! Links are in memory and over TCP on this machine, messages come whole and byte by byte.
 #![tactic(auto)]
@@ -7,8 +7,6 @@
 mod chunks;
 #[cfg(test)]
 mod faults;
-#[cfg(test)]
-mod grades;
 #[cfg(test)]
 mod heads;
 #[cfg(test)]
@@ -20,18 +18,12 @@ mod links_over_tcp;
 #[cfg(test)]
 mod long_heads;
 #[cfg(test)]
-mod pages;
-#[cfg(test)]
 mod requests;
 #[cfg(test)]
 mod responses;
 #[cfg(test)]
-mod sizes;
-#[cfg(test)]
 mod writing;
 
-#[cfg(test)]
-use page_json::JsonFault;
 #[cfg(test)]
 use std::alloc::Global;
 #[cfg(test)]
@@ -68,17 +60,3 @@ fn joined(alloc: Global, parts: &[&[u8]]) -> Option<Vec<u8>> {
 /// How many bytes one read gives: all of a message, or one.
 #[cfg(test)]
 static PIECES: &[u32] = &[1_000_000, 1];
-
-/// What bytes are to be read as: what a body says, at a version, or no body.
-#[cfg(test)]
-#[derive(Clone, Copy)]
-enum Reads<T> {
-    Says(u64, T),
-    Nothing,
-}
-
-/// Whether bytes were refused as no body, and not for want of memory.
-#[cfg(test)]
-fn is_refused(fault: JsonFault) -> bool {
-    fault == JsonFault::NotABody
-}

@@ -1,37 +1,16 @@
-//! Tests of sources and shelves by their public calls: in memory, from list files, and over HTTP by dials in memory; and of a node, which serves a
-//! source over links in memory, to the byte.
+//! Tests of sources and shelves by their public calls: in memory, and from list files.
 #![tactic(auto)]
 
-#[cfg(test)]
-mod cut_short;
 #[cfg(test)]
 mod file_faults;
 #[cfg(test)]
 mod file_shelf;
 #[cfg(test)]
-mod http_versions;
-#[cfg(test)]
 mod in_memory;
-#[cfg(test)]
-mod link_faults;
 #[cfg(test)]
 mod list_files;
 #[cfg(test)]
-mod node_answers;
-#[cfg(test)]
-mod node_faults;
-#[cfg(test)]
-mod node_heads;
-#[cfg(test)]
-mod node_queries;
-#[cfg(test)]
-mod node_visits;
-#[cfg(test)]
-mod sessions;
-#[cfg(test)]
 mod shelves;
-#[cfg(test)]
-mod stepping;
 #[cfg(test)]
 mod versions;
 
@@ -42,10 +21,4 @@ use std::process::Abort;
 #[cfg(test)]
 fn none_is_wrong(rt: &impl Abort, first_wrong: Option<usize>) {
     assert_eq!(rt; first_wrong, None);
-}
-
-/// What a test asks holds.
-#[cfg(test)]
-fn holds(rt: &impl Abort, is_so: bool) {
-    assert!(rt; is_so);
 }

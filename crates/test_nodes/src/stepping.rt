@@ -3,6 +3,7 @@
 ghost use Rattle.std.specs.Prelude.{◌<◌, All, IfOk};
 ghost use Rattle.tk_io.specs.LinksInMemory.{IsUnused};
 
+use super::bodies::{Pairs, are};
 use http_source::HttpSource;
 use ranked_list::Row;
 use source_api::{Source, Trouble};
@@ -10,9 +11,6 @@ use std::alloc::Global;
 use test_mem_source::visits::{Parts, joined};
 use tk_io::{Ended, MemDial, MemLink, Memory};
 use wire::Place;
-
-/// Rows, each as its object and its grade.
-pub(crate) type Pairs = &'static [(u32, u32)];
 
 /// A call on a source.
 #[derive(Clone, Copy)]
@@ -76,22 +74,6 @@ fn place(alloc: Global) -> Result<Place, Memory> {
         port: 80,
         path,
     })
-}
-
-/// Whether rows are these.
-fn are(rows: &[Row], pairs: &[(u32, u32)]) -> bool {
-    if rows.len() != pairs.len() {
-        return false;
-    }
-    for (place, (object, grade)) in pairs.iter().enumerate() {
-        let Some(row) = rows.get(place) else {
-            return false;
-        };
-        if row.object != *object || row.grade != *grade {
-            return false;
-        }
-    }
-    true
 }
 
 /// Whether a call for the size gives this.

@@ -1,7 +1,8 @@
 //! Sizes: which bytes say one, and how they are written. What holds of any body, as its JSON and its version, is shown of these.
 
-use super::Reads::{Nothing, Says};
-use super::{Reads, holds, is_refused, none_is_wrong};
+use super::bodies::Reads::{Nothing, Says};
+use super::bodies::{Reads, is_refused};
+use super::{holds, none_is_wrong};
 use page_json::{read_size, write_size};
 use std::alloc::Global;
 

@@ -1,7 +1,8 @@
 //! Grades: which bytes say one, and how they are written.
 
-use super::Reads::{Nothing, Says};
-use super::{Reads, is_refused, none_is_wrong};
+use super::bodies::Reads::{Nothing, Says};
+use super::bodies::{Reads, is_refused};
+use super::none_is_wrong;
 use page_json::{read_grade, write_grade};
 use std::alloc::Global;
 

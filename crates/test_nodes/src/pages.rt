@@ -1,13 +1,11 @@
 //! Pages: which bytes say one, how they are written, and how many rows they may have.
 
-use super::Reads::{Nothing, Says};
-use super::{Reads, holds, is_refused, none_is_wrong};
+use super::bodies::Reads::{Nothing, Says};
+use super::bodies::{Pairs, Reads, are, is_refused};
+use super::{holds, none_is_wrong};
 use page_json::{JsonFault, Versioned, read_page, write_page};
 use ranked_list::Row;
 use std::alloc::{AllocError, Global};
-
-/// Rows, each as its object and its grade.
-type Pairs = &'static [(u32, u32)];
 
 /// Bytes, with the version and the rows that they say.
 static BODIES: &[(&[u8], Reads<Pairs>)] = &[
@@ -46,22 +44,6 @@ static BODIES: &[(&[u8], Reads<Pairs>)] = &[
     (b"{\"rows\":[[1,900]],\"version\":-1}", Nothing),
     (b"{\"rows\":3,\"rows\":[[1,900]]}", Says(0, &[(1, 900)])),
 ];
-
-/// Whether rows are these.
-fn are(rows: &[Row], pairs: &[(u32, u32)]) -> bool {
-    if rows.len() != pairs.len() {
-        return false;
-    }
-    for (place, (object, grade)) in pairs.iter().enumerate() {
-        let Some(row) = rows.get(place) else {
-            return false;
-        };
-        if row.object != *object || row.grade != *grade {
-            return false;
-        }
-    }
-    true
-}
 
 /// Whether a page is as it is to be.
 fn is_page(page: &Result<Versioned<Vec<Row>>, JsonFault>, reads: Reads<Pairs>) -> bool {
