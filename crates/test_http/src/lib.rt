@@ -1,6 +1,6 @@
-//! Tests of HTTP messages and of the links that bring them, by the public calls.
+//! Tests of HTTP messages, and of the links in memory that bring them, by the public calls.
 //!
-//! Links are in memory and over TCP on this machine, messages come whole and byte by byte.
+//! Messages come whole and byte by byte.
 #![tactic(auto)]
 
 #[cfg(test)]
@@ -13,8 +13,6 @@ mod heads;
 mod lengths;
 #[cfg(test)]
 mod links_in_memory;
-#[cfg(test)]
-mod links_over_tcp;
 #[cfg(test)]
 mod long_heads;
 #[cfg(test)]

@@ -1,4 +1,4 @@
-//! Tests of sources and shelves by their public calls: in memory, and from list files.
+//! Tests of sources and shelves in memory and in files, and of links over TCP, by their public calls.
 #![tactic(auto)]
 
 #[cfg(test)]
@@ -7,6 +7,8 @@ mod file_faults;
 mod file_shelf;
 #[cfg(test)]
 mod in_memory;
+#[cfg(test)]
+mod links_over_tcp;
 #[cfg(test)]
 mod list_files;
 #[cfg(test)]
@@ -21,4 +23,10 @@ use std::process::Abort;
 #[cfg(test)]
 fn none_is_wrong(rt: &impl Abort, first_wrong: Option<usize>) {
     assert_eq!(rt; first_wrong, None);
+}
+
+/// What a test asks holds.
+#[cfg(test)]
+fn holds(rt: &impl Abort, is_so: bool) {
+    assert!(rt; is_so);
 }
