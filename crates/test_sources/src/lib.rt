@@ -24,9 +24,3 @@ use std::process::Abort;
 fn none_is_wrong(rt: &impl Abort, first_wrong: Option<usize>) {
     assert_eq!(rt; first_wrong, None);
 }
-
-/// What a test asks holds.
-#[cfg(test)]
-fn holds(rt: &impl Abort, is_so: bool) {
-    assert!(rt; is_so);
-}

@@ -1,6 +1,5 @@
 //! The real links, on this machine: one connection, with bytes in both directions.
 
-use super::holds;
 use std::alloc::Global;
 use std::cell::Cell;
 use std::io;
@@ -56,7 +55,7 @@ fn is_reached<R: Net<Listener = TcpListener, Stream = TcpStream> + Clock + Copy 
 
 #[test]
 fn a_connection_goes_both_ways(rt: HostRuntime) {
-    holds(&rt, is_reached(rt.alloc(), &rt));
+    assert!(rt; is_reached(rt.alloc(), &rt));
 }
 
 /// A clock that shows the seconds which a test sets.
@@ -116,5 +115,5 @@ fn is_limited<R: Net<Listener = TcpListener, Stream = TcpStream> + Clock + Copy 
 
 #[test]
 fn a_connection_ends_in_time(rt: HostRuntime) {
-    holds(&rt, is_limited(&rt));
+    assert!(rt; is_limited(&rt));
 }
