@@ -3,7 +3,7 @@
 
 Use, at the top of the repository:  bench/gate.py [--every 0.2] [--] [COMMAND ..]
 
-COMMAND is `rt ci` if none is given, which proves all from nothing and takes an hour or more; `rt check`, `rt test` and `rt must-fail NAME`
+COMMAND is `rt ci --anew` if none is given, which proves all from nothing and takes an hour or more; `rt check`, `rt test` and `rt must-fail NAME`
 in a crate's folder serve to look at one crate. While it runs, each prover below it is looked at every so many seconds, so the time of a
 process is short by at most that much. A crate's check, its tests and its edits are told apart by the prover's words and by the folder
 that it runs in. The memory is that of the greatest process. Beside these stand the lines of code of the crate (its `.rt` files) and the
@@ -198,10 +198,10 @@ def table(crates, wall):
 def main():
     parser = argparse.ArgumentParser(description=__doc__.splitlines()[0])
     parser.add_argument("--every", type=float, default=0.2, help="seconds between two looks")
-    parser.add_argument("command", nargs="*", help="what to run, `rt ci` if nothing is given")
+    parser.add_argument("command", nargs="*", help="what to run, `rt ci --anew` if nothing is given")
     words = parser.parse_args()
     began = time.monotonic()
-    status, seen = watch(words.command or ["rt", "ci"], words.every)
+    status, seen = watch(words.command or ["rt", "ci", "--anew"], words.every)
     crates = {}
     for process in seen:
         crates.setdefault(process.crate, Crate()).add(process)
