@@ -1,7 +1,7 @@
 # topk: `make try` answers the query of a bundle without proving anything, `make run` proves the program first, `make test` passes all
-# proofs and tests and runs the program as users do, `make fail-alloc` refuses it each allocation in turn, `make bench` tells how long
-# queries take, `make threads` that workers change no answer, and `make install PREFIX=..` puts the program, its manual page and the
-# completions of shells where they belong.
+# proofs and tests and runs the program as users do, `make wrong-bodies` tries what the prover must refuse beside what the gate tries,
+# `make fail-alloc` refuses the program each allocation in turn, `make bench` tells how long queries take, `make threads` that workers change
+# no answer, and `make install PREFIX=..` puts the program, its manual page and the completions of shells where they belong.
 
 HOTELS = crates/topk/data
 
@@ -11,7 +11,7 @@ PROGRAM = ./topk
 BIN = $(DESTDIR)$(PREFIX)/bin
 SHARE = $(DESTDIR)$(PREFIX)/share
 
-.PHONY: topk try try-run run lib test fail-alloc bench threads install uninstall
+.PHONY: topk try try-run run lib test wrong-bodies fail-alloc bench threads install uninstall
 
 # The proved program, at ./topk. `rt run` proves it, builds it and runs it once.
 topk:
@@ -47,6 +47,11 @@ test:
 	rt ci
 	cd crates/topk_c && rt lib
 	python3 tests/run.py
+
+# The wrong bodies that the gate doesn't try: the prover has to refuse each. More than an hour; of one crate some minutes, as in
+# `make wrong-bodies CRATES=query_run`.
+wrong-bodies:
+	python3 tests/wrong_bodies.py $(CRATES)
 
 # Each allocation of an answer, a run, a certificate's reading and a counter table refused in turn, which `make test` does too.
 fail-alloc: topk

@@ -3,11 +3,11 @@
 
 Use, at the top of the repository:  bench/gate.py [--every 0.2] [--] [COMMAND ..]
 
-COMMAND is `rt ci --anew` if none is given, which proves all from nothing and takes an hour or more; `rt check`, `rt test` and `rt must-fail NAME`
-in a crate's folder serve to look at one crate. While it runs, each prover below it is looked at every so many seconds, so the time of a
-process is short by at most that much. A crate's check, its tests and its edits are told apart by the prover's words and by the folder
-that it runs in. The memory is that of the greatest process. Beside these stand the lines of code of the crate (its `.rt` files) and the
-seconds for 100 of them, all kinds together. It needs Linux (`/proc`).
+COMMAND is `rt ci` if none is given, with `--anew` where the kit keeps what a run passed: it proves all from nothing and takes an hour or
+more. `rt check`, `rt test` and `rt must-fail NAME` in a crate's folder serve to look at one crate. While it runs, each prover below it is
+looked at every so many seconds, so the time of a process is short by at most that much. A crate's check, its tests and its edits are told
+apart by the prover's words and by the folder that it runs in. The memory is that of the greatest process. Beside these stand the lines of
+code of the crate (its `.rt` files) and the seconds for 100 of them, all kinds together. It needs Linux (`/proc`).
 """
 
 import argparse
@@ -195,13 +195,19 @@ def table(crates, wall):
     print(f"\n{whole:.0f} minutes of processor time in {wall / 60:.0f} minutes, on {os.cpu_count()} processors.")
 
 
+def gate():
+    """The gate from nothing: a kit whose `rt ci` keeps what it passed has a word against that."""
+    told = subprocess.run(["rt", "help"], capture_output=True, text=True, check=False)
+    return ["rt", "ci", "--anew"] if "--anew" in told.stdout + told.stderr else ["rt", "ci"]
+
+
 def main():
     parser = argparse.ArgumentParser(description=__doc__.splitlines()[0])
     parser.add_argument("--every", type=float, default=0.2, help="seconds between two looks")
-    parser.add_argument("command", nargs="*", help="what to run, `rt ci --anew` if nothing is given")
+    parser.add_argument("command", nargs="*", help="what to run, `rt ci` from nothing if nothing is given")
     words = parser.parse_args()
     began = time.monotonic()
-    status, seen = watch(words.command or ["rt", "ci", "--anew"], words.every)
+    status, seen = watch(words.command or gate(), words.every)
     crates = {}
     for process in seen:
         crates.setdefault(process.crate, Crate()).add(process)

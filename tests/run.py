@@ -8,7 +8,8 @@ Without names all tests run. Each folder of cases/ is one: `words` (a word a lin
 topic: special.py has inputs of 128 MB, full devices and threads that are counted, completions.py the completions for shells, library.py the library
 beside the program, view.py the page that draws certificates, bridges.py the nodes over databases, hosts.py `run` over lists that hosts serve,
 bad_hosts.py over hosts that misbehave, nodes.py `node`, servers.py `serve`, peers.py both with curl, nginx and others, sharing.py queries that share
-sources on threads, and starving.py those in which each allocation is refused in turn.
+sources on threads, and starving.py those in which each allocation is refused in turn. wrong_bodies.py says whether the wrong bodies beside the gate's can
+still be applied.
 
 What a machine lacks (machine.py) is skipped by name, as are tests that haven't begun when the minutes are over, so that no machine fails a test.
 Ends with 'N passed, M failed', and with the status 0 exactly where none failed. Standard library alone.
@@ -28,7 +29,7 @@ import traceback
 OLDEST = (3, 9)
 HERE = pathlib.Path(__file__).resolve().parent
 PROGRAM = HERE.parent / "crates" / "topk" / "out" / "topk"
-TOPICS = ("special", "completions", "library", "view", "bridges", "hosts", "bad_hosts", "nodes", "servers", "peers", "sharing", "starving")
+TOPICS = ("wrong_bodies", "special", "completions", "library", "view", "bridges", "hosts", "bad_hosts", "nodes", "servers", "peers", "sharing", "starving")
 
 
 def read(path, default):
