@@ -20,7 +20,7 @@ use Rattle.fetcher.specs.Moving.{TellsNoMove}
 use Rattle.fetcher.specs.Telling.{TellsOf}
 use Rattle.limits.specs.declared.settings.Settings.{Settings}
 use Rattle.batch_result.specs.Numbered.{told_at, version_at, counts_at}
-use Rattle.batch_result.specs.Refusing.{IsByOwnTurns}
+use Rattle.batch_result.specs.Refusing.{IsRefusedByTurns}
 use Rattle.batch_result.specs.declared.batch.Use.{Use}
 use Rattle.batch_result.specs.Using.{IsUsed, HasCounted}
 
@@ -96,7 +96,7 @@ pub record IsBatch (run : BatchRun) (batch : BatchState) : Type 0 where
   pub ends : AllZip EndsAs queries batch.endings
   pub right : AllZip IsRight run.readies batch.endings
   pub spared : All IsSpared queries
-  pub own : All (IsByOwnTurns states) queries
+  pub own : All (IsRefusedByTurns states) queries
   pub uses : length batch.uses ≡ length run.sizes
   pub used : (source : ℕ) → source < length run.sizes
       → IsUsed run.settings queries source (state_at states source) (counts_at run.before source) (counts_at run.now source) (use_at batch.uses source)

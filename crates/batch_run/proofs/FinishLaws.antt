@@ -44,7 +44,7 @@ use Rattle.batch_result.specs.declared.batch.Use.{Use}
 use Rattle.batch_run.specs.declared.work.Worker.{Worker}
 use Rattle.batch_run.specs.Shares.{share, share_from}
 use Rattle.batch_result.specs.Using.{is_refused_for, IsWantedBy, IsNamedBy, all_grades_on, IsUsed, HasCounted}
-use Rattle.batch_result.specs.Refusing.{IsByOwnTurns}
+use Rattle.batch_result.specs.Refusing.{IsRefusedByTurns}
 use Rattle.batch_result.specs.Batches.{batch_of, use_at, IsClosing, IsSpared, IsBatch}
 use Rattle.batch_result.specs.Cut.{IsReadBy, IsOfBegun, begun, IsCut}
 use Rattle.batch_run.specs.Working.{End, IsEndOf, StoodIf, DidOf, RanAll}
@@ -189,7 +189,7 @@ pub record IsEnded (states : List State) (ready : Ready) (end : End) : Type 0 wh
   pub ends : EndsAs end.0 end.1
   pub right : IsRight ready end.1
   pub spared : IsSpared end.0
-  pub own : IsByOwnTurns states end.0
+  pub own : IsRefusedByTurns states end.0
   pub served : IsServed states end.0
 
 pub ended_at : (states : List State) (holds : List Hold) (ready : Ready) (end : End) → length states ≡ length holds
@@ -554,8 +554,8 @@ module _ (pool : List TableId) (settings : Settings) (counts : List ℕ) (readie
     spared_all : All IsSpared queries
     spared_all = all_seconds (IsEnded states) (λ (end : End). end.0) IsSpared (λ ready end is. is.spared) readies ends whole.follows
 
-    own_all : All (IsByOwnTurns states) queries
-    own_all = all_seconds (IsEnded states) (λ (end : End). end.0) (IsByOwnTurns states) (λ ready end is. is.own) readies ends whole.follows
+    own_all : All (IsRefusedByTurns states) queries
+    own_all = all_seconds (IsEnded states) (λ (end : End). end.0) (IsRefusedByTurns states) (λ ready end is. is.own) readies ends whole.follows
 
     ends_all : AllZip EndsAs queries (map (λ (end : End). end.1) ends)
     ends_all = both_parts (IsEnded states) (λ (end : End). end.0) (λ (end : End). end.1) EndsAs (λ ready end is. is.ends) readies ends whole.follows

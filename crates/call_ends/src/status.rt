@@ -6,9 +6,9 @@ ghost use Rattle.call_ends.specs.Codes.{exit_code};
 /// How a call ended, which is the program's exit status.
 #[derive(Clone, Copy, Debug, PartialEq, Eq)]
 pub enum Status {
-    /// The work was done: the query was answered, the answer is fixed, or the table was made.
+    /// The work was done: each query was answered, the answer is fixed or within its guarantee, the table was made, or the links were served.
     Done = 0,
-    /// All was written, and the query was refused, or the certificate was, or the answer is beaten.
+    /// All was written, and a query was refused, or the certificate was, or the answer is beaten, or a node found no list of its name.
     Partial = 1,
     /// The words are no command.
     BadWords = 2,

@@ -13,7 +13,7 @@ use Rattle.source_api.specs.declared.source.Trouble.TheVariants.{Fail, Moved}
 use Rattle.source_api.specs.Counting.{TroubleHasCause, IsNoMove, added, no_counts, raised}
 use Rattle.source_api.specs.Places.{CountsTakes, SameElsewhere, counts_taken, put_back_at, with_source}
 use Rattle.catalog_text.specs.Catalog.{Listed as Entry}
-use Rattle.catalog_open.specs.Openings.{Counted, Used, one_at, used_at, added_all, counted_times, PutsOneBack, MovesBut, none_held, Moves, MovesAt, TakesNone, PutsBack, KeepsOthers, TroubleAt}
+use Rattle.catalog_open.specs.Openings.{Counted, Used, one_at, used_at, added_all, counted_times, PutsOneBack, MovesBut, none_held, Moves, MovesAt, TakesOneAtMost, PutsBack, KeepsOthers, TroubleAt}
 use Rattle.catalog_open.specs.Entries.{entry_at}
 
 added_append : (c : Counts) (xs ys : List Counts) → added_all c (xs ++ ys) ≡ added_all (added_all c xs) ys
@@ -161,7 +161,7 @@ here_still held used before now other still none free =
       sources = ap (λ (c : PlaceCounts). c.sources) still ∙ ap (added_all (before other).sources) (sym none);
     }
 
-here_one : (place : List ℕ) (before now : Counted) → SameElsewhere place before now → (at : TakesNone (before place) (now place)) → (other : List ℕ)
+here_one : (place : List ℕ) (before now : Counted) → SameElsewhere place before now → (at : TakesOneAtMost (before place) (now place)) → (other : List ℕ)
     → Here none_held (at_place place at.moves.counts) before now other
 here_one place before now elsewhere at other =
     let counts = at.moves.counts in
@@ -250,7 +250,7 @@ puts_here place one before now elsewhere is = record {
     ] refl
 
 -- what changes at one place alone moves so
-pub moves_here : (place : List ℕ) (before now : Counted) → SameElsewhere place before now → (at : TakesNone (before place) (now place))
+pub moves_here : (place : List ℕ) (before now : Counted) → SameElsewhere place before now → (at : TakesOneAtMost (before place) (now place))
     → Moves (at_place place at.moves.counts) before now
 moves_here place before now elsewhere at = here_all none_held (at_place place at.moves.counts) before now (here_one place before now elsewhere at)
 
@@ -336,7 +336,7 @@ put_troubled before now knows first counts (Fail Memory) is known fresh cause ot
 put_troubled before now knows first counts (Moved had stated) is known fresh cause other still = absurd still
 
 -- no source was taken, or one was taken and put back
-pub took_none : (before now : PlaceCounts) → CountsTakes before now → now.taken ≡ before.taken → TakesNone before now
+pub took_none : (before now : PlaceCounts) → CountsTakes before now → now.taken ≡ before.taken → TakesOneAtMost before now
 took_none before now takes same = record {
   moves = record {
     texts = ap (λ (c : PlaceCounts). c.text_faults) takes.others;
@@ -349,7 +349,7 @@ took_none before now takes same = record {
   once = omega arith;
 }
 
-pub took_back : (before mid now : PlaceCounts) → mid ≡ counts_taken before → PutsOneBack mid now → TakesNone before now
+pub took_back : (before mid now : PlaceCounts) → mid ≡ counts_taken before → PutsOneBack mid now → TakesOneAtMost before now
 took_back before mid now took put =
     let first : (now.take_faults) ≡ before.take_faults = ap (λ (c : PlaceCounts). c.take_faults) put.1 ∙ ap (λ (c : PlaceCounts). c.take_faults) took in
     record {

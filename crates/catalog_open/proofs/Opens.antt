@@ -12,7 +12,7 @@ use Rattle.catalog_text.specs.Catalog.{Listed as Entry}
 use Rattle.catalog_open.specs.declared.opened.Opening.{Opening}
 use Rattle.catalog_open.specs.declared.opened.Opening.TheVariants.{Closed, Open}
 use Rattle.catalog_open.specs.Entries.{no_entry, entry_at, opening_at, entry_told}
-use Rattle.catalog_open.specs.Openings.{Counted, Used, Moves, MovesAt, TakesNone, KeepsOthers, TroubleAt, one_at, standing, Sources, run_count, IsToldAs, IsAtVersion, IsSource, IsOpening, IsNumbered, AreOpened, IsKnownAt}
+use Rattle.catalog_open.specs.Openings.{Counted, Used, Moves, MovesAt, TakesOneAtMost, KeepsOthers, TroubleAt, one_at, standing, Sources, run_count, IsToldAs, IsAtVersion, IsSource, IsOpening, IsNumbered, AreOpened, IsKnownAt}
 use Rattle.catalog_open.proofs.Moving.{at_place, moves_nothing, moves_on, moves_then, moves_here, moves_at, moves_taken, trouble_on, trouble_from, keeps_then, keeps_here}
 use Rattle.limits.specs.declared.TheConstants.{MAX_OBJECTS}
 
@@ -233,14 +233,14 @@ opened_as lists versions catalog Wanted before now os os_now told told_now held 
 -- a source was tried to be opened
 pub opened_tried : (lists : List ℕ → Option (List Row)) (versions : List ℕ → Option ℕ) (catalog : List Entry) (Wanted : ℕ
     → Type 0) (before mid now : Counted) (place : ℕ) (text : List ℕ) (os : List Opening) (s : Sources)
-    → Wanted place → (entry_at catalog place).place ≡ text → SameElsewhere text mid now → TakesNone (mid text) (now text) → AreOpened lists versions catalog Wanted before mid os s → AreOpened lists versions catalog Wanted before now os s
+    → Wanted place → (entry_at catalog place).place ≡ text → SameElsewhere text mid now → TakesOneAtMost (mid text) (now text) → AreOpened lists versions catalog Wanted before mid os s → AreOpened lists versions catalog Wanted before now os s
 opened_tried lists versions catalog Wanted before mid now place text os s wanted at elsewhere moves are =
     opened_moved lists versions catalog Wanted before mid now os s (at_place text moves.moves.counts) are (moves_here text mid now elsewhere moves) (keeps_here catalog Wanted place text mid now wanted at elsewhere)
 
 -- it isn't open
 pub opened_not : (lists : List ℕ → Option (List Row)) (versions : List ℕ → Option ℕ) (catalog : List Entry) (Wanted : ℕ
     → Type 0) (before mid now : Counted) (place : ℕ) (text : List ℕ) (os os_now : List Opening) (s : Sources)
-    → Wanted place → length os ≡ place → (entry_at catalog place).place ≡ text → SameElsewhere text mid now → TakesNone (mid text) (now text) → TroubleAt (mid text) (now text) → os_now ≡ os ++ Closed ∷ []
+    → Wanted place → length os ≡ place → (entry_at catalog place).place ≡ text → SameElsewhere text mid now → TakesOneAtMost (mid text) (now text) → TroubleAt (mid text) (now text) → os_now ≡ os ++ Closed ∷ []
     → AreOpened lists versions catalog Wanted before mid os s → AreOpened lists versions catalog Wanted before now os_now s
 opened_not lists versions catalog Wanted before mid now place text os os_now s wanted long at elsewhere moves trouble put are =
     let tried = opened_tried lists versions catalog Wanted before mid now place text os s wanted at elsewhere moves are in

@@ -17,7 +17,7 @@ use Rattle.catalog_open.specs.declared.opened.Opening.{Opening}
 use Rattle.catalog_open.specs.declared.opened.Opening.TheVariants.{Closed, Open}
 use Rattle.catalog_open.specs.declared.taking.Held.{Held}
 use Rattle.catalog_open.specs.Entries.{entry_at, is_marked, IsMarked}
-use Rattle.catalog_open.specs.Openings.{AreOpened, AsksEachAtMostOnce, AsksEachOnce, AsksFor, Counted, IsUnread, MovesAt, Sources, TakesNone, TroubleAt, counted_times, marked_at, run_count}
+use Rattle.catalog_open.specs.Openings.{AreOpened, AsksEachAtMostOnce, AsksEachOnce, AsksFor, Counted, IsUnread, MovesAt, Sources, TakesOneAtMost, TroubleAt, counted_times, marked_at, run_count}
 use Rattle.catalog_open.specs.Takings.{Answers, IsSized, IsTaken, PutsAlone, TakeFails, both, closed_if, is_trouble, joined, marked_before}
 use Rattle.catalog_open.proofs.Moving.{put_troubled, took_back, took_none, trouble_from}
 use Rattle.catalog_open.proofs.Taken.{before_marked, before_passed}
@@ -83,7 +83,7 @@ few_alone catalog marks before mid now few alone = λ place.
     record { calls = t.calls; few = t.few; asks = asks_alone t.calls (before place) (mid place) (now place) t.asks (alone place) }
 
 -- a take that failed, with what was put back
-fails_with : (before now back : PlaceCounts) → TakeFails before now → TakesNone (both before back) (both now back)
+fails_with : (before now back : PlaceCounts) → TakeFails before now → TakesOneAtMost (both before back) (both now back)
 fails_with before now back fails =
     took_none (both before back) (both now back) (record { later = fails.counts.later; others = ap (λ c. both c back) fails.counts.others }) fails.untaken
 
@@ -94,7 +94,7 @@ back_with taken now back back_now knows counts took put known =
     ap (λ c. both c back_now) took ∙ ap (both (counts_taken taken)) (put ∙ ap (λ k. put_back_at k counts back) known)
 
 back_none : (taken now back back_now : PlaceCounts) (knows : Bool) (counts : Counts) → now ≡ counts_taken taken → back_now ≡ put_back_at knows counts back → knows ≡ true
-    → TakesNone (both taken back) (both now back_now)
+    → TakesOneAtMost (both taken back) (both now back_now)
 back_none taken now back back_now knows counts took put known =
     took_back (both taken back) (counts_taken (both taken back)) (both now back_now) refl (counts, back_with taken now back back_now knows counts took put known)
 
@@ -140,7 +140,7 @@ module _ {S : Type 0} (list : S → Option (List Row)) (states : S → Option �
 
     -- the entry isn't open, whether it is settled by that or not
     pub settled_closed : (mid now : Counted) (os os_now : List Opening) (s : Sources) (closes : Bool) → is_marked marks place ≡ true → (closes ≡ true → length os ≡ place)
-        → SameElsewhere Text mid now → TakesNone (mid Text) (now Text) → (closes ≡ true → TroubleAt (mid Text) (now Text)) → os_now ≡ closed_if closes os
+        → SameElsewhere Text mid now → TakesOneAtMost (mid Text) (now Text) → (closes ≡ true → TroubleAt (mid Text) (now Text)) → os_now ≡ closed_if closes os
         → Opens mid os s → Opens now os_now s
     settled_closed mid now os os_now s true marked long elsewhere none trouble put are =
         opened_not lists versions catalog (IsMarked marks) before mid now place Text os os_now s marked (long refl) refl elsewhere none (trouble refl) put are

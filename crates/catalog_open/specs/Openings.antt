@@ -37,8 +37,8 @@ abbrev pub counted_times : ℕ → ℕ → ℕ
 counted_times zero count = count
 counted_times (suc times) count = counted (counted_times times count)
 
--- between two moments sources were taken of a shelf and these put back, and of each place so many are still held; calls that take a source failed,
--- and no text was asked for that failed
+-- between two moments sources were taken of a shelf and these put back, and of each place so many are still held; calls that take a source may have
+-- failed, and no text was asked for that failed
 pub record MovesBut (held : List ℕ → ℕ) (used : List Used) (before now : Counted) : Type 0 where
   pub texts : (place : List ℕ) → (now place).text_faults ≡ (before place).text_faults
   pub takes : (place : List ℕ) → (before place).take_faults ≤ (now place).take_faults
@@ -65,15 +65,15 @@ pub record PutsBack (used : List Used) (before now : Counted) : Type 0 where
 abbrev pub PutsOneBack : PlaceCounts → PlaceCounts → Type 0
 PutsOneBack before now = (counts : Counts) × (now ≡ with_source counts before)
 
--- at a place sources were put back, and calls that take one failed
+-- at a place sources were put back, and calls that take one may have failed
 pub record MovesAt (before now : PlaceCounts) : Type 0 where
   pub texts : now.text_faults ≡ before.text_faults
   pub takes : before.take_faults ≤ now.take_faults
   pub counts : List Counts
   pub sources : now.sources ≡ added_all before.sources counts
 
--- at a place one source at most was taken, and it was put back; calls that take one failed
-pub record TakesNone (before now : PlaceCounts) : Type 0 where
+-- at a place one source at most was taken, and it was put back; calls that take one may have failed
+pub record TakesOneAtMost (before now : PlaceCounts) : Type 0 where
   pub moves : MovesAt before now
   pub taken : now.taken ≡ counted_times (length moves.counts) before.taken
   pub returned : now.returned ≡ counted_times (length moves.counts) before.returned
@@ -186,7 +186,8 @@ marked_at [] marks place = 0
 marked_at (entry ∷ catalog) [] place = 0
 marked_at (entry ∷ catalog) (marked ∷ marks) place = (if marked then one_at entry.place place else 0) + marked_at catalog marks place
 
--- the source of a place was asked for so many times: each call gave one or failed, is counted as that, and no count rose but for one
+-- the source of a place was asked for so many times but for want of memory: each call gave one or failed, and is counted as that; where none failed no
+-- failure was counted
 pub record AsksFor (calls : ℕ) (before now : PlaceCounts) : Type 0 where
   pub given : ℕ
   pub failed : ℕ

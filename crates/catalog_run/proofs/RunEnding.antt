@@ -19,7 +19,7 @@ use Rattle.query_admission.specs.declared.line_outcome.LineOutcome.{LineOutcome}
 use Rattle.command_words.specs.declared.running.RunOptions.{RunOptions}
 use Rattle.limits.specs.declared.settings.Settings.{Settings}
 use Rattle.call_ends.specs.Calls.{Call, KeepsShelf, LeftAlone, WroteNothing, WroteWhole, input_limit}
-use Rattle.call_ends.specs.Shelves.{Shelf, AsksText, GivesText, TextFailed}
+use Rattle.call_ends.specs.Shelves.{Shelf, AsksText, GivesText, TextFailed, TextRefused}
 use Rattle.catalog_run.specs.Taking.{TakesSources}
 use Rattle.catalog_run.specs.Running.{catalog_refused_text, run_status}
 use Rattle.csv_records.specs.Records.{records_of}
@@ -41,8 +41,8 @@ asks_none place s = record {
   elsewhere = λ other differs. refl;
 }
 
-pub asks_kept : (place : List ℕ) (before now : Shelf) → now ≡ before → AsksText place before now
-asks_kept place before now same = subst (AsksText place before) (sym same) (asks_none place before)
+pub refused_kept : (place : List ℕ) (before now : Shelf) → now ≡ before → TextRefused place before now
+refused_kept place before now same = subst (TextRefused place before) (sym same) (record { asked = asks_none place before; same = refl })
 
 -- a shelf that was asked for the text of a place, which is this one
 pub asks_text : (place named : List ℕ) (before now : Shelf) → named ≡ place → SameAtEach before.texts now.texts → SameAtEach before.lists now.lists
@@ -69,6 +69,14 @@ text_failed place named before now trouble failed is asked cause = record {
       (subst (λ t. HasTextCause (before.at named) (now.at named) t) failed cause);
 }
 
+-- it gave none for want of memory
+pub text_refused : (place named : List ℕ) (before now : Shelf) (trouble : Trouble) → trouble ≡ Fail fails.Memory → named ≡ place → AsksText place before now
+    → HasTextCause (before.at named) (now.at named) trouble → TextRefused place before now
+text_refused place named before now trouble wants is asked cause = record {
+  asked = asked;
+  same = subst (λ p. now.at p ≡ before.at p) is (subst (λ t. HasTextCause (before.at named) (now.at named) t) wants cause);
+}
+
 -- both at once
 pub text_given : (place named : List ℕ) (before now : Shelf) (text : List ℕ) → named ≡ place → SameAtEach before.texts now.texts → SameAtEach before.lists now.lists
     → SameAtEach before.versions now.versions → SameElsewhere named before.at now.at → CountsTexts (before.at named) (now.at named)
@@ -80,7 +88,7 @@ text_given place named before now text is texts lists versions elsewhere here to
 pub ends_untold : (o : RunOptions) (c : Call) (trouble : Trouble) → AsksText o.catalog c.before.shelf c.after.shelf
     → HasTextCause (c.before.shelf.at o.catalog) (c.after.shelf.at o.catalog) trouble → LeftAlone c → WroteNothing c → EndsRunning o c (text_status trouble)
 ends_untold o c (Fail fails.Failed) asked cause alone nothing = (record { asked = asked; rose = cause }, alone, nothing)
-ends_untold o c (Fail fails.Memory) asked cause alone nothing = inl (asked, alone, nothing)
+ends_untold o c (Fail fails.Memory) asked cause alone nothing = inl (record { asked = asked; same = cause }, alone, nothing)
 ends_untold o c (Fail fails.Garbled) asked cause alone nothing = absurd cause
 ends_untold o c (Moved had now) asked cause alone nothing = absurd cause
 

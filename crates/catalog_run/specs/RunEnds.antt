@@ -6,7 +6,7 @@ use Rattle.catalog_text.specs.Catalog.{Listed as Entry, IsCatalog}
 use Rattle.command_words.specs.declared.running.RunOptions.{RunOptions}
 use Rattle.limits.specs.declared.settings.Settings.{Settings}
 use Rattle.call_ends.specs.Calls.{Call, LeftAlone, KeepsShelf, ReadSome, ReadWhole, ReadFailed, ReadLong, WroteNothing, WroteWhole, WroteFront}
-use Rattle.call_ends.specs.Shelves.{Shelf, AsksText, GivesText, TextFailed}
+use Rattle.call_ends.specs.Shelves.{Shelf, GivesText, TextFailed, TextRefused}
 use Rattle.catalog_run.specs.Taking.{TakesSources}
 use Rattle.catalog_run.specs.Cut.{IsCutRun}
 use Rattle.catalog_run.specs.Running.{RefusesCatalog, RepliesToLines, lines_run}
@@ -76,5 +76,5 @@ EndsRunning o c WriteFault = RunsOn o c WriteFault
 EndsRunning o c ReadFault = RunsOn o c ReadFault
 EndsRunning o c LongInput = RunsOn o c LongInput
 EndsRunning o c OpenFault = TextFailed o.catalog c.before.shelf c.after.shelf × LeftAlone c × WroteNothing c
-EndsRunning o c Memory = (AsksText o.catalog c.before.shelf c.after.shelf × LeftAlone c × WroteNothing c) ⊎ RunsOn o c Memory
+EndsRunning o c Memory = (TextRefused o.catalog c.before.shelf c.after.shelf × LeftAlone c × WroteNothing c) ⊎ RunsOn o c Memory
 EndsRunning _ _ _ = ⊥

@@ -11,7 +11,7 @@ use Rattle.source_node.specs.ServingLinks.{ServedAll, ServedSome}
 use Rattle.source_node.specs.declared.serving.Served.{Served}
 use Rattle.source_node.specs.declared.serving.Served.TheVariants.{Ended, PortFault as AtFault}
 use Rattle.call_ends.specs.Calls.{Call, KeepsShelf, WroteNothing, WroteWhole, WroteFront}
-use Rattle.call_ends.specs.Shelves.{Shelf, TellsTheSame, AsksText, GivesText, TextFailed}
+use Rattle.call_ends.specs.Shelves.{Shelf, TellsTheSame, GivesText, TextFailed, TextRefused}
 use Rattle.call_ends.specs.declared.status.Status.{Status}
 use Rattle.call_ends.specs.declared.status.Status.TheVariants.{Done, Partial, BadCatalog, WriteFault, OpenFault, PortFault, Memory}
 use Rattle.catalog_run.specs.Running.{RefusesCatalog}
@@ -123,5 +123,5 @@ EndsOn o c p status =
 -- how a node ends
 abbrev pub EndsNode : NodeOptions → Call → Ports → Status → Type 0
 EndsNode o c p OpenFault = (TextFailed o.catalog c.before.shelf c.after.shelf × KeepsPort p × WroteNothing c) ⊎ EndsOn o c p OpenFault
-EndsNode o c p Memory = (AsksText o.catalog c.before.shelf c.after.shelf × KeepsPort p × WroteNothing c) ⊎ EndsOn o c p Memory
+EndsNode o c p Memory = (TextRefused o.catalog c.before.shelf c.after.shelf × KeepsPort p × WroteNothing c) ⊎ EndsOn o c p Memory
 EndsNode o c p status = EndsOn o c p status

@@ -12,7 +12,7 @@ use Rattle.query_server.specs.declared.server.Served.TheVariants.{Ended, PortFau
 use Rattle.std.specs.Io.KnownBytes.{Keeps}
 use Rattle.call_ends.specs.Ends.{Says}
 use Rattle.call_ends.specs.Calls.{Call, Output, WroteNothing, WroteWhole, WroteFront}
-use Rattle.call_ends.specs.Shelves.{Shelf, AsksText, GivesText, TextFailed}
+use Rattle.call_ends.specs.Shelves.{Shelf, GivesText, TextFailed, TextRefused}
 use Rattle.call_ends.specs.declared.status.Status.{Status}
 use Rattle.call_ends.specs.declared.status.Status.TheVariants.{Done, BadCatalog, WriteFault, OpenFault, PortFault, Memory}
 use Rattle.catalog_run.specs.RunEnds.{from_shelf}
@@ -85,7 +85,7 @@ ServeEndsOn o c p status =
 -- how a server of queries ends
 abbrev pub EndsServe : ServeOptions → Call → Ports → Status → Type 0
 EndsServe o c p OpenFault = TextFailed o.catalog c.before.shelf c.after.shelf × KeepsPort p × WroteNothing c
-EndsServe o c p Memory = (AsksText o.catalog c.before.shelf c.after.shelf × KeepsPort p × WroteNothing c) ⊎ ServeEndsOn o c p Memory
+EndsServe o c p Memory = (TextRefused o.catalog c.before.shelf c.after.shelf × KeepsPort p × WroteNothing c) ⊎ ServeEndsOn o c p Memory
 EndsServe o c p status = ServeEndsOn o c p status
 
 -- what is said of links that were served: how many they are, or nothing where the port failed or memory was wanted

@@ -44,7 +44,7 @@ abbrev pub is_answer : Outcome → Bool
 is_answer (Answered answer) = true
 is_answer (Refused refusal) = false
 
--- the line was answered so earlier in this pass: its query ran through the pass as it was then, and the pass knows no less now
+-- this is an answer of the line, by a run of its query through the pass as it was at some moments, since which the pass knows no less
 pub record WasAnswered (view : View) (number : ℕ) (bytes : List ℕ) (holds : List Hold) (o : LineOutcome) : Type 0 where
   pub before : List Hold
   pub then_held : List Hold

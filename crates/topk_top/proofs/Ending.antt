@@ -8,7 +8,7 @@ use Rattle.call_ends.specs.Calls.{Call, KeepsShelf, LeftAlone, WroteNothing}
 use Rattle.call_ends.specs.Ends.{Says}
 use Rattle.call_ends.specs.declared.status.Status.{Status}
 use Rattle.call_ends.specs.declared.status.Status.TheVariants.{BadWords, Memory}
-use Rattle.catalog_run.proofs.RunEnding.{asks_kept}
+use Rattle.catalog_run.proofs.RunEnding.{refused_kept}
 use Rattle.port_calls.specs.Ports.{Ports, KeepsPort}
 use Rattle.call_ends.proofs.Ending.{read_none}
 
@@ -30,11 +30,11 @@ ends_without_memory (Some Compare) c p port kept alone nothing = (port, kept, (r
 ends_without_memory (Some (Make options)) c p port kept alone nothing = (port, kept, (alone, nothing))
 ends_without_memory (Some (Bulk options)) c p port kept alone nothing = (port, kept, (alone, nothing))
 ends_without_memory (Some (Run options)) c p port kept alone nothing =
-    (port, inl (asks_kept options.catalog c.before.shelf c.after.shelf kept, alone, nothing))
+    (port, inl (refused_kept options.catalog c.before.shelf c.after.shelf kept, alone, nothing))
 ends_without_memory (Some (Node options)) c p port kept alone nothing =
-    (alone, inl (asks_kept options.catalog c.before.shelf c.after.shelf kept, port, nothing))
+    (alone, inl (refused_kept options.catalog c.before.shelf c.after.shelf kept, port, nothing))
 ends_without_memory (Some (Serve options)) c p port kept alone nothing =
-    (alone, inl (asks_kept options.catalog c.before.shelf c.after.shelf kept, port, nothing))
+    (alone, inl (refused_kept options.catalog c.before.shelf c.after.shelf kept, port, nothing))
 
 -- a call ends as its command does
 pub ends_as : (command : Option Command) (c : Call) (p : Ports) (status : Status) → command_of c.words ≡ command → CommandEnds command c p status

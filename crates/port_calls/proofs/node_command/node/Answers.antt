@@ -8,7 +8,7 @@ use Rattle.call_ends.specs.Calls.{Call, output_as, outside_of, call_at}
 use Rattle.call_ends.specs.Shelves.{Shelf, GivesText}
 use Rattle.call_ends.proofs.Ending.{shelf_at}
 use Rattle.catalog_run.specs.RunEnds.{from_shelf}
-use Rattle.catalog_run.proofs.RunEnding.{asks_text, text_failed, text_given}
+use Rattle.catalog_run.proofs.RunEnding.{asks_text, text_failed, text_given, text_refused}
 use Rattle.port_calls.specs.Ports.{ports_of}
 use Rattle.port_calls.proofs.NodeEnding.{ends_at_fault, ends_on}
 use Rattle.port_calls.proofs.node_command.node.Goals as goal
@@ -54,6 +54,18 @@ returns-in-Err-Fail-Failed-clause-ends g c = λ words input.
       text_failed c.args.options.now.catalog c.as_str.result.now before given c.in-Err-Fail-Failed.field-0 (c.in-Err-Fail-Failed.field-0-is ∙ ap Fail (rw c.in-Err-Fail-Failed.field-0-is at c.in-Err-Fail-Failed.field-0-0-is)) c.as_str.ensures
           (asks_text c.args.options.now.catalog c.as_str.result.now before given c.as_str.ensures c.text.ensures.texts c.text.ensures.lists c.text.ensures.versions c.text.ensures.elsewhere c.text.ensures.counts)
           c.in-Err-Fail-Failed.ensures.cause,
+      refl,
+      record { held = Keeps-refl (g.K.Sink.held c.args.out.now); faults = refl },
+    )
+
+pub returns-in-Err-Fail-Memory-clause-ends : goal.returns-in-Err-Fail-Memory-clause-ends
+returns-in-Err-Fail-Memory-clause-ends g c = λ words input.
+    let before : Shelf = shelf_at (g.H.Shelf.texts c.args.shelf.now) (g.H.Shelf.lists c.args.shelf.now) (g.H.Shelf.versions c.args.shelf.now) (g.H.Shelf.at c.args.shelf.now) in
+    let given : Shelf = shelf_at (g.H.Shelf.texts c.text.new.self) (g.H.Shelf.lists c.text.new.self) (g.H.Shelf.versions c.text.new.self) (g.H.Shelf.at c.text.new.self) in
+    inl (
+      text_refused c.args.options.now.catalog c.as_str.result.now before given c.in-Err-Fail-Memory.field-0 (c.in-Err-Fail-Memory.field-0-is ∙ ap Fail (rw c.in-Err-Fail-Memory.field-0-is at c.in-Err-Fail-Memory.field-0-0-is)) c.as_str.ensures
+          (asks_text c.args.options.now.catalog c.as_str.result.now before given c.as_str.ensures c.text.ensures.texts c.text.ensures.lists c.text.ensures.versions c.text.ensures.elsewhere c.text.ensures.counts)
+          c.in-Err-Fail-Memory.ensures.cause,
       refl,
       record { held = Keeps-refl (g.K.Sink.held c.args.out.now); faults = refl },
     )
