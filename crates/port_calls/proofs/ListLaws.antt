@@ -151,7 +151,7 @@ borrows_all catalog before mid now back b once puts =
     record { borrows = b; once = once_back catalog (every catalog) back before.at mid.at now.at once puts }
 
 pub lists_end : (l : Listening) (catalog : List Entry) (before now : Shelf) (p : Ports) (served : Served) → BorrowsAll catalog before now
-    → OpensAll catalog before → ServesPort l p served → p.after.closed ≡ p.before.closed → EndsLists l catalog before now p served
+    → OpensAll catalog before now → ServesPort l p served → p.after.closed ≡ p.before.closed → EndsLists l catalog before now p served
 lists_end l catalog before now p (Ended count) b opens serves closed = record { borrows = b; opens = opens; serves = serves; closed = closed }
 lists_end l catalog before now p AtFault b opens serves closed = record { borrows = b; opens = opens; serves = serves; closed = closed }
 lists_end l catalog before now p NoMemory b opens serves closed = (b.borrows, inr serves)

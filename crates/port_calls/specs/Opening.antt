@@ -4,7 +4,7 @@ use Rattle.limits.specs.declared.TheConstants.{MAX_OBJECTS}
 use Rattle.catalog_text.specs.Catalog.{Listed as Entry}
 use Rattle.catalog_open.specs.declared.opened.Opening.{Opening}
 use Rattle.catalog_open.specs.declared.opened.Opening.TheVariants.{Closed, Open}
-use Rattle.catalog_open.specs.Openings.{Counted, Used, Moves, Sources, AreOpened, KeepsOthers, AsksEachAtMostOnce, AsksEachOnce}
+use Rattle.catalog_open.specs.Openings.{Counted, Used, Moves, PutsBack, Sources, AreOpened, KeepsOthers, AsksEachAtMostOnce, AsksEachOnce}
 use Rattle.query_server.specs.OpenedEntry.{OpenedEntry}
 use Rattle.query_server.specs.OpenedEntry.TheVariants.{Opened, NotOpened, TooLarge}
 use Rattle.call_ends.specs.Shelves.{Shelf, TellsTheSame}
@@ -36,8 +36,8 @@ pub record BorrowsAll (catalog : List Entry) (before now : Shelf) : Type 0 where
   pub once : AsksEachOnce catalog (every catalog) before.at now.at
 
 -- the source of each list of a catalog was opened, and this became of the lists: one is open, or too large, by what its source states, and not open where
--- a call that takes its source, or one of the source, failed or was garbled
-pub record OpensAll (catalog : List Entry) (before : Shelf) : Type 0 where
+-- a call that takes its source, or one of the source, failed or was garbled. Since then nothing was counted but what the sources that were put back counted
+pub record OpensAll (catalog : List Entry) (before now : Shelf) : Type 0 where
   pub then_counted : Counted
   pub openings : List Opening
   pub sources : Sources
@@ -45,3 +45,5 @@ pub record OpensAll (catalog : List Entry) (before : Shelf) : Type 0 where
   pub entries : List OpenedEntry
   pub many : length entries ≡ length catalog
   pub became : entries ≡ map entry_of openings
+  pub used : List Used
+  pub back : PutsBack used then_counted now.at

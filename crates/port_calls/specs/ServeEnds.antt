@@ -43,7 +43,7 @@ ServesPort l p NoMemory = ListensFor l p NoMemory
 -- the sources of a catalog were taken, which says what became of the lists, and put back, and between the two the port was served
 pub record ServesThem (l : Listening) (catalog : List Entry) (before now : Shelf) (p : Ports) (served : Served) : Type 0 where
   pub borrows : BorrowsAll catalog before now
-  pub opens : OpensAll catalog before
+  pub opens : OpensAll catalog before now
   pub serves : ServesPort l p served
   pub closed : p.after.closed ≡ p.before.closed
 

@@ -27,6 +27,8 @@ returns-in-Ok g c =
       entries = c.in-Ok.entries.items;
       many = c.in-Ok.ensures.entries.many;
       became = c.in-Ok.ensures.became;
+      used = _;
+      back = b.moves;
     })
     c.serve_at-served.ensures.serves c.serve_at-served.ensures.closed
 
