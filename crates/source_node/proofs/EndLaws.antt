@@ -4,7 +4,6 @@ use Rattle.std.specs.Result.{IsOk}
 use Rattle.std.specs.Str.{bytes_eq}
 use Rattle.wire.specs.Heads.{AnswersRequest}
 use Rattle.wire.specs.declared.fault.WireFault.{WireFault}
-use Rattle.wire.specs.declared.fault.WireFault.TheVariants.{BadMessage, TooLong}
 use Rattle.wire.specs.declared.request.Head.{Head}
 use Rattle.wire.specs.LinkTold.{Counts as Counted}
 use Rattle.source_node.specs.Refusals.{status_of, body_of}
@@ -24,7 +23,7 @@ use Rattle.source_node.specs.declared.answer.Answer.{Answer}
 use Rattle.source_node.specs.declared.asked.Asked.{Asked}
 use Rattle.source_node.specs.declared.asked.Route.{Route}
 use Rattle.source_node.specs.declared.node.ConnEnd.{ConnEnd}
-use Rattle.source_node.specs.declared.node.ConnEnd.TheVariants.{Replied, LinkFault, Memory}
+use Rattle.source_node.specs.declared.node.ConnEnd.TheVariants.{Replied, LinkFault}
 use Rattle.source_node.specs.declared.refusal.Refusal.{Refusal}
 use Rattle.source_node.specs.declared.refusal.Refusal.TheVariants.{TooLarge, BadRequest, NotFound, MethodNotAllowed, SourceFailed, NoMemory}
 use Rattle.source_node.proofs.PageLaws.{quiet_same, quiet_then, quiet_rows}
@@ -134,7 +133,6 @@ served_ends : (name : List ℕ) (version : Option ℕ) (visit : Visit) (end : Co
     → Ends name version visit end
 served_ends name version visit (Replied status) served sends = (served, sends)
 served_ends name version visit LinkFault served sends = inr (served, sends)
-served_ends name version visit Memory served sends = absurd sends
 
 -- the same by what was heard and what was answered, where the link took nothing while it was read
 pub replied : (name : List ℕ) (version : Option ℕ) (visit : Visit) (held : Option (List ℕ)) (faults : ℕ) (heard : Result Head WireFault) (answer : Result (List ℕ) Refusal) (end : ConnEnd)
@@ -145,6 +143,17 @@ replied name version visit held faults heard answer end reads quiet same_held sa
     served_ends name version visit end record { heard = heard; answer = answer; reads = reads; quiet = quiet; serves = serves }
     (subst (λ (h : Option (List ℕ)). Sends h visit.held_now visit.write_faults visit.write_faults_now (status_in answer) (reply_of (asks_head heard) answer) end) same_held
     (subst (λ n. Sends held visit.held_now n visit.write_faults_now (status_in answer) (reply_of (asks_head heard) answer) end) same_faults sends))
+
+-- the same where no head was heard, for a fault that is known
+pub unheard : (name : List ℕ) (version : Option ℕ) (visit : Visit) (held : Option (List ℕ)) (faults mid : ℕ) (fault known : WireFault) (why : Refusal) (end : ConnEnd) → fault ≡ known
+    → IfSome visit.came (λ bytes. AnswersRequest bytes (Err fault)) → Counted {T = Head} visit.read_faults mid (Err fault)
+    → (Counted {T = Head} visit.read_faults mid (Err known) → mid ≡ visit.read_faults) → visit.read_faults_now ≡ mid
+    → held ≡ visit.held → faults ≡ visit.write_faults → ServesHeard name version (Err known) visit.source visit.source_now (Err why)
+    → Sends held visit.held_now faults visit.write_faults_now (status_of why) (reply_text (status_of why) Text (body_of false why)) end
+    → Ends name version visit end
+unheard name version visit held faults mid fault known why end is reads counts quiet later same_held same_faults serves sends =
+    replied name version visit held faults (Err known) (Err why) end (subst (λ (f : WireFault). IfSome visit.came (λ bytes. AnswersRequest bytes (Err f))) is reads)
+    (later ∙ quiet (subst (λ (f : WireFault). Counted {T = Head} visit.read_faults mid (Err f)) is counts)) same_held same_faults serves sends
 
 -- a reply with an answer that is sent, by an equal body
 pub answer_sent : (held held_now : Option (List ℕ)) (faults faults_now : ℕ) (body text : List ℕ) (end : ConnEnd) → body ≡ text
@@ -158,25 +167,3 @@ pub refusal_sent : (held held_now : Option (List ℕ)) (faults faults_now : ℕ)
     → Sends held held_now faults faults_now (status_of why) (reply_text (status_of why) Text (body_of test why)) end
 refusal_sent held held_now faults faults_now why is_head test end is sends =
     subst (λ t. Sends held held_now faults faults_now (status_of why) (reply_text (status_of why) Text (body_of t why)) end) is sends
-
--- bytes that are no request get their reply
-pub bad_heard : (name : List ℕ) (version : Option ℕ) (visit : Visit) (held : Option (List ℕ)) (faults mid : ℕ) (fault : WireFault) (end : ConnEnd) → fault ≡ BadMessage
-    → IfSome visit.came (λ bytes. AnswersRequest bytes (Err fault)) → Counted {T = Head} visit.read_faults mid (Err fault) → visit.read_faults_now ≡ mid
-    → held ≡ visit.held → faults ≡ visit.write_faults → visit.source_now ≡ visit.source
-    → Sends held visit.held_now faults visit.write_faults_now (status_of BadRequest) (reply_text (status_of BadRequest) Text (body_of false BadRequest)) end
-    → Ends name version visit end
-bad_heard name version visit held faults mid fault end is reads counts later same_held same_faults same_source sends =
-    let quiet : mid ≡ visit.read_faults = subst (λ (f : WireFault). Counted {T = Head} visit.read_faults mid (Err f)) is counts in
-    replied name version visit held faults (Err BadMessage) (Err BadRequest) end (subst (λ (f : WireFault). IfSome visit.came (λ bytes. AnswersRequest bytes (Err f))) is reads)
-    (later ∙ quiet) same_held same_faults (refl, same_source) sends
-
--- and so do those that pass a limit
-pub long_heard : (limit : ℕ) (name : List ℕ) (version : Option ℕ) (visit : Visit) (held : Option (List ℕ)) (faults mid : ℕ) (fault : WireFault) (end : ConnEnd) → fault ≡ TooLong limit
-    → IfSome visit.came (λ bytes. AnswersRequest bytes (Err fault)) → Counted {T = Head} visit.read_faults mid (Err fault) → visit.read_faults_now ≡ mid
-    → held ≡ visit.held → faults ≡ visit.write_faults → visit.source_now ≡ visit.source
-    → Sends held visit.held_now faults visit.write_faults_now (status_of TooLarge) (reply_text (status_of TooLarge) Text (body_of false TooLarge)) end
-    → Ends name version visit end
-long_heard limit name version visit held faults mid fault end is reads counts later same_held same_faults same_source sends =
-    let quiet : mid ≡ visit.read_faults = subst (λ (f : WireFault). Counted {T = Head} visit.read_faults mid (Err f)) is counts in
-    replied name version visit held faults (Err (TooLong limit)) (Err TooLarge) end (subst (λ (f : WireFault). IfSome visit.came (λ bytes. AnswersRequest bytes (Err f))) is reads)
-    (later ∙ quiet) same_held same_faults (refl, same_source) sends

@@ -5,6 +5,8 @@ use Rattle.std.specs.Io.KnownBytes.{IsAtEnd}
 use Rattle.tk_io.specs.Calls.{PortCall, with_more}
 use Rattle.tk_io.proofs.Calling.{calls_then}
 use Rattle.tk_io.specs.Links.{Closed, ClosesOne, GivesFirst, HasNone, IsFresh}
+use Rattle.wire.specs.Sparing.{HoldsRequest, ReadsSparingly}
+use Rattle.wire.proofs.SparingLaws.{sparing_fresh}
 use Rattle.source_node.specs.Connections.{Ends}
 use Rattle.source_node.specs.Serving.{Seen}
 use Rattle.source_node.specs.declared.node.ConnEnd.{ConnEnd}
@@ -82,13 +84,27 @@ none_more name version before mid now source after source_now count call served 
 }
 
 -- the connection of a fresh link, by the counts that it had
-pub served_fresh : (name : List ℕ) (version : Option ℕ) (came held : Option (List ℕ)) (read_faults write_faults : ℕ) (pieces : Option (List (List ℕ))) (one : Closed) (source source_now : Seen) (end : ConnEnd)
+served_fresh : (name : List ℕ) (version : Option ℕ) (came held : Option (List ℕ)) (read_faults write_faults : ℕ) (pieces : Option (List (List ℕ))) (one : Closed) (source source_now : Seen) (end : ConnEnd)
     → IsFresh held read_faults write_faults pieces
     → Ends name version (record (visit_of came held one source source_now) { read_faults = read_faults; write_faults = write_faults }) end
     → Ends name version (visit_of came held one source source_now) end
 served_fresh name version came held read_faults write_faults pieces one source source_now end fresh ends =
     subst (λ r. Ends name version (record (visit_of came held one source source_now) { read_faults = r; write_faults = 0 }) end) fresh.reads
     (subst (λ w. Ends name version (record (visit_of came held one source source_now) { read_faults = read_faults; write_faults = w }) end) fresh.writes ends)
+
+-- a fresh link that was served and given back
+pub served_once : (name : List ℕ) (version : Option ℕ) (came held : Option (List ℕ)) (read_faults write_faults : ℕ) (pieces : Option (List (List ℕ)))
+    (closed closed_now : Option (List Closed)) (one : Closed) (source source_now : Seen)
+    → IsFresh held read_faults write_faults pieces → ClosesOne closed closed_now one
+    → ((end : ConnEnd) × Ends name version (record (visit_of came held one source source_now) { read_faults = read_faults; write_faults = write_faults }) end)
+    → ReadsSparingly HoldsRequest [] pieces one.pieces → ServesOne name version came held closed closed_now source source_now
+served_once name version came held read_faults write_faults pieces closed closed_now one source source_now fresh given_back ended sparing = record {
+  one = one;
+  given_back = given_back;
+  end = ended.0;
+  ends = served_fresh name version came held read_faults write_faults pieces one source source_now ended.0 fresh ended.1;
+  sparing = sparing_fresh HoldsRequest pieces one.pieces fresh.unread sparing;
+}
 
 -- the next link, which was given and served
 pub first_served : (name : List ℕ) (version : Option ℕ) (before mid now : PortAt) (came held : Option (List ℕ)) (source source_now : Seen)

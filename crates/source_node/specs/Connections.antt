@@ -8,7 +8,7 @@ use Rattle.tk_io.specs.Whole.{TookFront}
 use Rattle.wire.specs.Heads.{AnswersRequest}
 use Rattle.wire.specs.Writing.{reply_text}
 use Rattle.wire.specs.declared.fault.WireFault.{WireFault}
-use Rattle.wire.specs.declared.fault.WireFault.TheVariants.{BadMessage, TooLong}
+use Rattle.wire.specs.declared.fault.WireFault.TheVariants.{BadMessage, TooLong, Memory}
 use Rattle.wire.specs.declared.request.Head.{Head}
 use Rattle.wire.specs.declared.writing.Kind.TheVariants.{Text, Json}
 use Rattle.source_api.specs.declared.counts.Counts.{Counts}
@@ -21,7 +21,7 @@ use Rattle.source_node.specs.Serving.{Seen, Answers, Fails, IsQuiet, text_of}
 use Rattle.source_node.specs.declared.asked.Asked.{Asked}
 use Rattle.source_node.specs.declared.answer.Answer.{Answer}
 use Rattle.source_node.specs.declared.node.ConnEnd.{ConnEnd}
-use Rattle.source_node.specs.declared.node.ConnEnd.TheVariants.{Replied, LinkFault, Memory}
+use Rattle.source_node.specs.declared.node.ConnEnd.TheVariants.{Replied, LinkFault}
 use Rattle.source_node.specs.declared.refusal.Refusal.{Refusal}
 use Rattle.source_node.specs.declared.refusal.Refusal.TheVariants.{TooLarge, BadRequest, SourceFailed, NoMemory}
 
@@ -81,11 +81,12 @@ abbrev pub Serves : List ℕ → Option ℕ → List ℕ → List ℕ → Seen �
 Serves name version method target before now (Err NoMemory) = IsOk (routed name method target) × StarvesAt (asked_of name method target) before now
 Serves name version method target before now answer = ServesAsked version (asked_of name method target) before now answer
 
--- how what was heard is served: a head, or bytes that are none or pass a limit
+-- how what was heard is served: a head, or bytes that are none or pass a limit, or for which no memory was left
 abbrev pub ServesHeard : List ℕ → Option ℕ → Result Head WireFault → Seen → Seen → Result (List ℕ) Refusal → Type 0
 ServesHeard name version (Ok head) before now answer = Serves name version head.method.items head.target.items before now answer
 ServesHeard name version (Err BadMessage) before now answer = (answer ≡ Err BadRequest) × (now ≡ before)
 ServesHeard name version (Err (TooLong limit)) before now answer = (answer ≡ Err TooLarge) × (now ≡ before)
+ServesHeard name version (Err Memory) before now answer = (answer ≡ Err NoMemory) × (now ≡ before)
 ServesHeard name version (Err _) before now answer = ⊥
 
 -- whether the method is HEAD; where no head was read it isn't
@@ -103,7 +104,7 @@ abbrev pub reply_of : Bool → Result (List ℕ) Refusal → List ℕ
 reply_of is_head (Ok body) = reply_text 200 Json (Some body)
 reply_of is_head (Err why) = reply_text (status_of why) Text (body_of is_head why)
 
--- a request was read to the end of its head, or as far as it was none, and served
+-- a request was read to the end of its head, or as far as it was none or no memory was left, and served
 pub record IsServed (name : List ℕ) (version : Option ℕ) (visit : Visit) : Type 0 where
   pub heard : Result Head WireFault
   pub answer : Result (List ℕ) Refusal
@@ -115,7 +116,6 @@ pub record IsServed (name : List ℕ) (version : Option ℕ) (visit : Visit) : T
 abbrev pub Sends : Option (List ℕ) → Option (List ℕ) → ℕ → ℕ → ℕ → List ℕ → ConnEnd → Type 0
 Sends held held_now faults faults_now status text (Replied said) = (said ≡ status) × Appends held held_now text × (faults_now ≡ faults)
 Sends held held_now faults faults_now status text LinkFault = TookFront held held_now text × Rose faults faults_now
-Sends held held_now faults faults_now status text Memory = ⊥
 
 -- nothing was written, and the source wasn't asked
 pub record IsUntouched (visit : Visit) : Type 0 where
@@ -128,14 +128,12 @@ abbrev pub SendsReply : (name : List ℕ) (version : Option ℕ) (visit : Visit)
 SendsReply name version visit served end =
     Sends visit.held visit.held_now visit.write_faults visit.write_faults_now (status_in served.answer) (reply_of (asks_head served.heard) served.answer) end
 
--- how a connection ends: a request was served, and its reply written or a front of it; or the link failed, or no memory was left,
--- while it was read
+-- how a connection ends: a request was served, and its reply written or a front of it; or the link failed while it was read
 abbrev pub Ends : List ℕ → Option ℕ → Visit → ConnEnd → Type 0
 Ends name version visit (Replied status) = (served : IsServed name version visit) × SendsReply name version visit served (Replied status)
 Ends name version visit LinkFault =
     (Rose visit.read_faults visit.read_faults_now × IsUntouched visit)
     ⊎ ((served : IsServed name version visit) × SendsReply name version visit served LinkFault)
-Ends name version visit Memory = (visit.read_faults_now ≡ visit.read_faults) × IsUntouched visit
 
 -- a head was served and its reply written, or a front of it
 abbrev pub IsRepliedTo : List ℕ → Option ℕ → List ℕ → List ℕ → Seen → Seen → Option (List ℕ) → Option (List ℕ) → ℕ → ℕ → ConnEnd → Type 0

@@ -22,27 +22,27 @@ use wire::{Head, Kind, WireFault, read_request, write_reply};
 /// How a connection ended.
 #[derive(Clone, Copy, Debug, PartialEq, Eq)]
 pub enum ConnEnd {
-    /// The whole reply was written, with this status.
+    /// The whole reply was written, with this status: 503 where no memory was left while the request was read or the answer was made.
     Replied { status: u16 },
     /// A read or a write of the link failed, and its count has gone up. A front of the reply may have been
     /// written.
     LinkFault,
-    /// No memory was left while the request was read. Nothing was written.
-    Memory,
 }
 
 /// Serves one request on the list of this name, and writes one reply. The request's body isn't read, and once its whole head has come
 /// no read is made.
 ///
 /// The first of these decides the status:
+/// 503 where no memory is left while the request is read;
 /// 431 for a head with more bytes or lines than a request may have (`wire::read_request`); 400 for bytes
 /// that are no request, or end before its head is whole; then, by the head, 405, 400 or 404 as
 /// [`asked_of`] says; 503 where no memory is left while the answer is made; 500 where the source fails,
 /// is garbled, or states another version; and else 200, with the answer in JSON. Every other reply says
-/// its reason in plain text, but that one to the method HEAD has no body.
+/// its reason in plain text, but that one to the method HEAD has no body. When memory is wanting isn't
+/// told, so 503 may come to any request.
 ///
 /// An answer states `version`, or where that is None the version that the source has at hand after it
-/// was asked. The source is asked where 200, 500 or 503 is the reply, and for nothing else than what the
+/// was asked. The source is asked only where 200, 500 or 503 is the reply, and for nothing else than what the
 /// route names: the size, the grade, or the rows from a place on, page by page until all are there that
 /// were asked for, or an empty page came.
 pub fn node_conn<S: Source, L: Link>(
@@ -77,7 +77,7 @@ pub fn node_conn<S: Source, L: Link>(
         Err(WireFault::LinkFault) => ConnEnd::LinkFault,
         Err(WireFault::BadMessage) => refuse(link, Refusal::BadRequest, false),
         Err(WireFault::TooLong { .. }) => refuse(link, Refusal::TooLarge, false),
-        Err(WireFault::Memory) => ConnEnd::Memory,
+        Err(WireFault::Memory) => refuse(link, Refusal::NoMemory, false),
     }
 }
 
