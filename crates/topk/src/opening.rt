@@ -43,6 +43,7 @@ pub(crate) fn open_told<F: FileTree, M: DialMaker>(
     dials: &M,
     place: &str,
 ) -> Result<PlaceSource<M::D>, Trouble>
+    ensures source { IfOk result (IsSourceOf (F.contents files.now) (M.makes dials.now) M.D.faults place.now) }
     ensures fresh { IfOk result (λ source. counts_of M.D.faults source ≡ no_counts) }
     ensures unasked { IfOk result (λ source. version_of source ≡ 0) }
     ensures states { IfOk result (λ source. IfSome (version_at place.now) (λ told. states_of source ≡ Some told)) }

@@ -1,10 +1,13 @@
 //! A shelf of files and of lists that hosts serve.
 
-ghost use Rattle.std.specs.Prelude.{◌≡◌, [], IfOk, OnErr, OnOk};
+ghost use Rattle.std.specs.Prelude.{◌≡◌, [], Some, true, ℕ, List, IfErr, IfOk, IfSome, OnErr, OnOk};
 ghost use Rattle.std.specs.declared.result.Result.TheVariants.{Err};
 ghost use Rattle.source_api.specs.declared.source.FailKind.TheVariants.{Memory};
 ghost use Rattle.source_api.specs.declared.source.Trouble.TheVariants.{Fail};
-ghost use Rattle.source_api.specs.Places.{IsTaking};
+ghost use Rattle.source_api.specs.Counting.{no_counts};
+ghost use Rattle.source_api.specs.Places.{IsTaking, SameAtEach, SameElsewhere, CountsTakes, HasTakeCause, counts_at, counts_taken, is_known};
+ghost use Rattle.topk.specs.Shelved.{list_at, version_at};
+ghost use Rattle.topk.specs.Sources.{IsSourceOf, list_of, counts_of, version_of, states_of};
 
 use super::dial_maker::DialMaker;
 use super::opening::open_told;
@@ -59,9 +62,6 @@ impl<'a, F: FileTree, M: DialMaker> Shelf for PlaceShelf<'a, F, M>
 where
     M::D: Send,
 {
-    ghost use Rattle.source_api.specs.Places.{counts_at, is_known};
-    ghost use Rattle.topk.specs.Shelved.{list_at, version_at};
-
     type Item = PlaceSource<M::D>;
 
     ghost texts = { λ s. F.contents s.files };
@@ -81,7 +81,23 @@ where
         }
     }
 
-    fn take(&mut self, alloc: Global, place: &str) -> Result<PlaceSource<M::D>, Trouble> {
+    /// The source that `open_place` opens of the place.
+    fn take(&mut self, alloc: Global, place: &str) -> Result<PlaceSource<M::D>, Trouble>
+        ensures source { IfOk result (IsSourceOf (F.contents self.old.files) (M.makes self.old.dials) M.D.faults place.now) }
+        ensures texts { SameAtEach (F.contents self.old.files) (F.contents self.new.files) }
+        ensures lists { SameAtEach (list_at (F.contents self.old.files)) (list_at (F.contents self.new.files)) }
+        ensures known { (other : List ℕ) → is_known self.old.ledger other ≡ true → is_known self.new.ledger other ≡ true }
+        ensures elsewhere { SameElsewhere place.now (counts_at self.old.ledger) (counts_at self.new.ledger) }
+        ensures counts { CountsTakes (counts_at self.old.ledger place.now) (counts_at self.new.ledger place.now) }
+        ensures taken { OnOk result (counts_at self.new.ledger place.now ≡ counts_taken (counts_at self.old.ledger place.now)) }
+        ensures untaken { OnErr result ((counts_at self.new.ledger place.now).taken ≡ (counts_at self.old.ledger place.now).taken) }
+        ensures cause { IfErr result (HasTakeCause (counts_at self.old.ledger place.now) (counts_at self.new.ledger place.now)) }
+        ensures fresh { IfOk result (λ item. counts_of M.D.faults item ≡ no_counts) }
+        ensures unasked { IfOk result (λ item. version_of item ≡ 0) }
+        ensures version { IfOk result (λ item. IfSome (version_at place.now) (λ told. states_of item ≡ Some told)) }
+        ensures list { IfOk result (λ item. IfSome (list_at (F.contents self.old.files) place.now) (λ told. list_of item ≡ Some told)) }
+        ensures knows { OnOk result (is_known self.new.ledger place.now ≡ true) }
+    {
         match open_told(alloc, self.files, self.dials, place) {
             Ok(source) => give(&mut self.ledger, alloc, place, source),
             Err(trouble) => Err(count_take(&mut self.ledger, alloc, place, trouble)),

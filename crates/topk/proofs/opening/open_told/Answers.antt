@@ -6,6 +6,9 @@ use Rattle.topk.specs.Sources.{IsSourceOf, list_of, counts_of, version_of, state
 use Rattle.topk.proofs.SourceLaws.{of_opened, source_is_fresh, source_is_unasked, source_states, source_lists}
 use Rattle.topk.proofs.opening.open_told.Goals as goal
 
+pub returns-clause-source : goal.returns-clause-source
+returns-clause-source g c = c.open_place.ensures.source
+
 pub returns-clause-fresh : goal.returns-clause-fresh
 returns-clause-fresh g c =
     let contents = g.F.FileTree.contents c.args.files.now in
