@@ -18,4 +18,12 @@ returns c = record {
   start = refl;
   sources = refl;
   queries = refl;
+  conns = refl;
+  version = refl;
+  page = refl;
+  host = refl;
+  head = refl;
+  headers = refl;
+  chunk_line = refl;
+  body = refl;
 }
