@@ -9,8 +9,8 @@ Each table is made by `topk make` from the same number, and each query asks by `
 objects; the combined algorithm, `ca`, follows the costs of a sorted and of a random access. Seconds are those
 of the processor, the least of the rounds, without the time that reading the bundle takes, which is measured by
 a query that names no list of it. Tables of fewer than 20,000 rows get as many more rounds as they are smaller.
-The memory is the process's at its most. Of an algorithm the greater tables are left out once a query took
-longer than the timeout.
+The memory is the process's at its most, by GNU time; where that isn't installed its column is empty. Of an algorithm
+the greater tables are left out once a query took longer than the timeout.
 
 The second table is of `topk bulk`, which makes such a table and so many queries over it and runs them all: for each
 number of rows and of workers the accesses of all queries, the seconds of the processor and of the clock, and the memory,
@@ -20,6 +20,7 @@ beside 16 bytes for each access, which is what the transcripts need at the least
 import argparse
 import os
 import resource
+import shutil
 import subprocess
 import sys
 import tempfile
@@ -32,6 +33,10 @@ BULK_START = 7
 K = 10
 # A list, an object, a grade and the kind of an access.
 ACCESS_BYTES = 16
+# A process begins with the memory of who starts it, as the system counts, and Python has more than a small table takes: so GNU time, which is small,
+# starts the program. It ends as the program does, and above this where that was ended from outside.
+TIME = shutil.which("time")
+LAST_STATUS = 128
 
 
 @dataclass
@@ -40,17 +45,18 @@ class Run:
 
     seconds: float
     clock: float
-    megabytes: int
+    megabytes: str
     status: int
     text: bytes
 
 
 def run(words, source, timeout):
     """Runs the program on an input, or gives None where it takes longer than the timeout."""
-    with tempfile.TemporaryFile() as out:
+    with tempfile.TemporaryFile() as out, tempfile.NamedTemporaryFile() as counted:
+        starter = [TIME, "-f", "%M", "-o", counted.name] if TIME else []
         began = time.monotonic()
         child = subprocess.Popen(
-            [PROGRAM] + words,
+            starter + [PROGRAM] + words,
             stdin=source,
             stdout=out,
             preexec_fn=lambda: resource.setrlimit(resource.RLIMIT_CPU, (timeout, timeout)),
@@ -58,11 +64,12 @@ def run(words, source, timeout):
         _, ended, used = os.wait4(child.pid, 0)
         clock = time.monotonic() - began
         child.returncode = os.waitstatus_to_exitcode(ended)
-        if child.returncode < 0:
+        if not 0 <= child.returncode <= LAST_STATUS:
             return None
         out.seek(0)
         text = out.read()
-    return Run(used.ru_utime + used.ru_stime, clock, used.ru_maxrss // 1024, child.returncode, text)
+        megabytes = f"{int(counted.read().split()[-1]) / 1024:.1f}" if TIME else ""
+    return Run(used.ru_utime + used.ru_stime, clock, megabytes, child.returncode, text)
 
 
 def run_one(bundle, timeout):
@@ -141,7 +148,7 @@ def measure(arguments, folder, lists, count, slow):
             made = accesses(best.text)
             seconds = max(best.seconds - reading, 0.0)
             each = f"{seconds * 1_000_000 / made:.2f}"
-            row(cells + [str(made), f"{seconds:.3f}", each, str(best.megabytes)])
+            row(cells + [str(made), f"{seconds:.3f}", each, best.megabytes])
 
 
 def bulk_accesses(text):
@@ -165,7 +172,7 @@ def measure_bulk(arguments, count, workers):
     made = bulk_accesses(best.text)
     needs = made * ACCESS_BYTES // 1_000_000
     each = f"{best.seconds * 1_000_000 / made:.2f}"
-    row(cells + [str(made), f"{best.seconds:.2f}", f"{best.clock:.2f}", each, str(best.megabytes), str(needs)])
+    row(cells + [str(made), f"{best.seconds:.2f}", f"{best.clock:.2f}", each, best.megabytes, str(needs)])
 
 
 def numbers(text):
