@@ -6,6 +6,7 @@ Use, from anywhere, with the program at ./topk (`make topk`) or the place given:
 A table of SQLite with 200,000 objects and four columns of grades, each half the object's own worth and half chance, so that the lists agree as
 rankings of real things do. The bridge runs in this process and counts what it gives; the statement that answers by the table alone runs beside.
 """
+import argparse
 import contextlib
 import pathlib
 import random
@@ -73,8 +74,11 @@ def by_the_table(place):
 
 def main():
     global NODE
-    program = pathlib.Path(sys.argv[1] if len(sys.argv) > 1 else "topk").resolve()
-    rows = int(sys.argv[2]) if len(sys.argv) > 2 else 200_000
+    parser = argparse.ArgumentParser(description=__doc__, formatter_class=argparse.RawDescriptionHelpFormatter)
+    parser.add_argument("program", nargs="?", type=pathlib.Path, default="topk")
+    parser.add_argument("rows", nargs="?", type=int, default=200_000)
+    given = parser.parse_args()
+    program, rows = given.program.resolve(), given.rows
     with tempfile.TemporaryDirectory() as folder:
         place = pathlib.Path(folder) / "things.db"
         fill(place, rows)

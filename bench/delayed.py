@@ -6,11 +6,11 @@ Use, from anywhere, with the program at ./topk (`make topk`) or the place given:
 The lists are a made table of 20,000 objects, each served by `topk node`. Of each query it prints how many calls each list had, the most calls of which
 each came after the one before it, and the seconds beside those of a plain client that makes the calls of the busiest list again.
 """
+import argparse
 import contextlib
 import pathlib
 import socket
 import socketserver
-import sys
 import tempfile
 import threading
 import time
@@ -62,9 +62,12 @@ def again(port, targets):
 
 
 def main():
-    program = str(pathlib.Path(sys.argv[1] if len(sys.argv) > 1 else "topk").resolve())
-    rows = int(sys.argv[2]) if len(sys.argv) > 2 else 20_000
-    seconds = (float(sys.argv[3]) if len(sys.argv) > 3 else 10) / 1000
+    parser = argparse.ArgumentParser(description=__doc__, formatter_class=argparse.RawDescriptionHelpFormatter)
+    parser.add_argument("program", nargs="?", type=pathlib.Path, default="topk")
+    parser.add_argument("rows", nargs="?", type=int, default=20_000)
+    parser.add_argument("milliseconds", nargs="?", type=float, default=10)
+    given = parser.parse_args()
+    program, rows, seconds = str(given.program.resolve()), given.rows, given.milliseconds / 1000
     with tempfile.TemporaryDirectory() as folder, contextlib.ExitStack() as nodes:
         near = nodes.enter_context(served(program, made_table(program, rows, pathlib.Path(folder)), pathlib.Path(folder)))
         far = {name: nodes.enter_context(delayed(port, seconds)) for name, port in near.items()}

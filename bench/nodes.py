@@ -6,13 +6,13 @@ Use, from anywhere, with the program at ./topk (`make topk`) or the place given:
 The lists are a made table of 200,000 objects, each served by `topk node` from its list file. A plain client reads them whole in pages of 10,000
 rows, joins them and takes the best; another one makes the random accesses of a certificate again, one connection after another.
 """
+import argparse
 import contextlib
 import heapq
 import json
 import pathlib
 import socket
 import subprocess
-import sys
 import tempfile
 import time
 
@@ -98,8 +98,11 @@ def served(program, names, folder):
 
 
 def main():
-    program = str(pathlib.Path(sys.argv[1] if len(sys.argv) > 1 else "topk").resolve())
-    rows = int(sys.argv[2]) if len(sys.argv) > 2 else 200_000
+    parser = argparse.ArgumentParser(description=__doc__, formatter_class=argparse.RawDescriptionHelpFormatter)
+    parser.add_argument("program", nargs="?", type=pathlib.Path, default="topk")
+    parser.add_argument("rows", nargs="?", type=int, default=200_000)
+    given = parser.parse_args()
+    program, rows = str(given.program.resolve()), given.rows
     with tempfile.TemporaryDirectory() as folder, contextlib.ExitStack() as nodes:
         folder = pathlib.Path(folder)
         ports = nodes.enter_context(served(program, made_table(program, rows, folder), folder))

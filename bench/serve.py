@@ -5,13 +5,13 @@ Use, from anywhere, with the program at ./topk (`make topk`) or the place given:
 
 It needs ab (apache2-utils), and nginx for the comparison. All runs on this machine, with 8 clients at once.
 """
+import argparse
 import contextlib
 import pathlib
 import re
 import shutil
 import socket
 import subprocess
-import sys
 import tempfile
 import time
 import urllib.parse
@@ -72,7 +72,9 @@ def of_nginx(folder, size, requests):
 
 
 def main():
-    program = str(pathlib.Path(sys.argv[1] if len(sys.argv) > 1 else "topk").resolve())
+    parser = argparse.ArgumentParser(description=__doc__, formatter_class=argparse.RawDescriptionHelpFormatter)
+    parser.add_argument("program", nargs="?", type=pathlib.Path, default="topk")
+    program = str(parser.parse_args().program.resolve())
     with tempfile.TemporaryDirectory() as place:
         place = pathlib.Path(place)
         made = subprocess.run([program, "make", "--start", "7", "--count", "20000", "--lists", "4"], capture_output=True, text=True).stdout
