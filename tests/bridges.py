@@ -330,7 +330,8 @@ def starts(base: Base) -> str | None:
     cases = [(1, "good", ("--table", "nothing", "--grade", "good")), (1, "nothing", (*table, "nothing")), (1, "great", (*table, "great")),
              (1, "part", (*table, "part")), (1, "gradeless", (*table, "gradeless=none")), (1, "grade", ("--table", "other", "--grade", "grade")),
              (1, "good", (*table, "good", "--version-query", "select 'x'")), (2, "usage", (*table, "1st")), (2, "usage", (*table, "good", "--version", "-1")),
-             (2, "usage", (*table, "good", "--version", "1", "--version-query", "select 1")), (2, "usage", ("--table", "t"))]
+             (2, "usage", (*table, "good", "--version", "1", "--version-query", "select 1")), (2, "usage", ("--table", "t")),
+             (2, "usage", (*table, "a=good", "--grade", "a=good")), (2, "usage", (*table, "good", "--grade", "other", "--grade", "good=other"))]
     with socket.create_server(("127.0.0.1", 0)) as taken:
         port = taken.getsockname()[1]
         cases.append((1, f"port {port}", (*table, "good", "--at", str(port))))

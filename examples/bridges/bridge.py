@@ -139,13 +139,23 @@ def named_column(word: str) -> tuple[str, str]:
     return name, column if equals else name
 
 
+class NewList(argparse.Action):
+    """Takes a list with a name that none before it has."""
+
+    def __call__(self, parser: argparse.ArgumentParser, namespace: argparse.Namespace, values: Any, option_string: str | None = None) -> None:
+        before = getattr(namespace, self.dest) or []
+        if values[0] in dict(before):
+            raise argparse.ArgumentError(self, f"there are two lists {values[0]}")
+        setattr(namespace, self.dest, [*before, values])
+
+
 def words(description: str, database: str) -> argparse.ArgumentParser:
     """The words of a bridge. The first one says where its database is."""
     made = argparse.ArgumentParser(description=description, allow_abbrev=False)
     made.add_argument("database", help=database)
     made.add_argument("--table", required=True, help="the table or view; a dot parts a schema from it")
     made.add_argument("--object", default="object", metavar="COLUMN", help="the column of objects (object)")
-    made.add_argument("--grade", type=named_column, action="append", required=True, metavar="[NAME=]COLUMN",
+    made.add_argument("--grade", type=named_column, action=NewList, required=True, metavar="[NAME=]COLUMN",
                       help="a column of grades, which is the list NAME; once for each list")
     made.add_argument("--at", type=number_up_to(MAX_PORT), required=True, metavar="PORT", help="the port to listen on; 0 is a free one")
     made.add_argument("--host", default="127.0.0.1", metavar="ADDRESS", help="the address to listen on (127.0.0.1)")
