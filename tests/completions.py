@@ -100,13 +100,16 @@ def completion_texts(_):
 
 
 def bash_options_once(_):
-    """An option is offered once, and nothing where its number is due."""
+    """An option is offered once, nothing where its number is due, and files behind the word `--`."""
     words = [path_of("bash"), "-c", BASH, str(FOLDER / "topk.bash")]
     found = offered(words, "make", "--start", "7", "--")
     if found != {"--count", "--lists"}:
         return f"offers {sorted(found)} behind --start"
     found = offered(words, "run", "--workers", "")
-    return None if found == set() else f"offers {sorted(found)} in place of a number"
+    if found != set():
+        return f"offers {sorted(found)} in place of a number"
+    found = {pathlib.Path(it).name for it in offered(words, "run", "--", f"{FOLDER}/")}
+    return None if found == {it.name for it in FOLDER.iterdir()} else f"offers {sorted(found)} in place of files behind --"
 
 
 def installed(program):

@@ -16,7 +16,7 @@ _topk() {
         *) return ;;
     esac
     # Each option takes a number, which is the user's to give.
-    [[ $previous == --* || $previous == = ]] && return
+    [[ $previous == --?* || $previous == = ]] && return
     if [[ ${COMP_WORDS[1]} == @(run|node|serve) && $current != -* ]]; then
         compopt -o filenames 2> /dev/null
         mapfile -t COMPREPLY < <(compgen -f -- "$current")
