@@ -15,6 +15,7 @@ What a machine lacks (machine.py) is skipped by name, as are tests that haven't 
 Ends with 'N passed, M failed', and with the status 0 exactly where none failed. Standard library alone.
 """
 import argparse
+import concurrent.futures
 import importlib
 import os
 import pathlib
@@ -30,6 +31,9 @@ OLDEST = (3, 9)
 HERE = pathlib.Path(__file__).resolve().parent
 PROGRAM = HERE.parent / "crates" / "topk" / "out" / "topk"
 TOPICS = ("wrong_bodies", "special", "completions", "library", "view", "bridges", "hosts", "bad_hosts", "nodes", "servers", "peers", "sharing", "starving")
+# Tests that wait most of their time, for what comes only after half a minute or a whole one. They begin first, on threads beside the others; who ends
+# the run from outside waits for them too.
+WAITING = {"servers_given_up", "bad_hosts_server_over_silence", "bad_hosts_silent"}
 
 
 def read(path, default):
@@ -94,19 +98,20 @@ def wrong_with(test, program):
 def run_all(program, names, minutes):
     """Runs the tests of these names, or all, and answers how many passed, how many failed, and the skipped ones."""
     passed, failed, passed_over, late = 0, 0, [], time.monotonic() + 60 * minutes
-    for name, test in tests():
-        if names and name not in names:
-            continue
-        try:
-            if time.monotonic() > late:
-                skipped(f"the {minutes:g} minutes are over")
-            wrong = wrong_with(test, program)
-        except machine.Skipped as why:
-            passed_over.append(f"{name} ({why})")
-            continue
-        passed, failed = passed + (wrong is None), failed + (wrong is not None)
-        if wrong is not None:
-            print(f"{name}: {wrong}", flush=True)
+    wanted = sorted((it for it in tests() if not names or it[0] in names), key=lambda it: it[0] in WAITING)
+    with concurrent.futures.ThreadPoolExecutor(len(WAITING)) as threads:
+        begun = {name: threads.submit(wrong_with, test, program) for name, test in wanted if name in WAITING}
+        for name, test in wanted:
+            try:
+                if name not in begun and time.monotonic() > late:
+                    skipped(f"the {minutes:g} minutes are over")
+                wrong = begun[name].result() if name in begun else wrong_with(test, program)
+            except machine.Skipped as why:
+                passed_over.append(f"{name} ({why})")
+                continue
+            passed, failed = passed + (wrong is None), failed + (wrong is not None)
+            if wrong is not None:
+                print(f"{name}: {wrong}", flush=True)
     return passed, failed, passed_over
 
 
