@@ -86,7 +86,7 @@ def little_memory(program):
     little, most = 200_000_000, resource.getrlimit(resource.RLIMIT_AS)[1]
     if most != resource.RLIM_INFINITY and most < little:
         raise Skipped("a process may have less than 200 MB here")
-    done = run(program, ["one"], padded_bundle(MAX_INPUT), preexec_fn=lambda: resource.setrlimit(resource.RLIMIT_AS, (little, little)))
+    done = run("sh", ["-c", f'ulimit -v {little // 1024}; exec "$0" "$@"', program, "one"], padded_bundle(MAX_INPUT))
     return differs(done, 8, b"")
 
 
