@@ -1,4 +1,4 @@
-use Rattle.std.proofs.Common.{Err, refl, subst, ap, ◌∙◌, arith}
+use Rattle.std.proofs.Common.{Err, inl, refl, subst, ap, ◌∙◌, arith}
 use Rattle.std.proofs.KnownBytes.{Keeps-refl}
 use Rattle.csv_records.specs.Records.{records_of}
 use Rattle.source_api.specs.declared.source.Trouble.TheVariants.{Fail}
