@@ -2,12 +2,12 @@
 use Rattle.std.proofs.Common.{◌≡◌, ◌≤◌, ◌<◌, ◌+◌, ℕ, zero, suc, Bool, true, false, List, [], ◌∷◌, ◌++◌, Option, Some, Result, Ok, Err, IfOk, All, Contains, length, map, take, reverse, replicate, nat_le, leb-true, leb-false, refl, sym, ap, subst, ◌∙◌, inr, arith}
 use Rattle.std.specs.Prelude.{if◌then◌else◌}
 use Rattle.std.proofs.lemmas.Bool.{false≢true}
-use Rattle.std.proofs.lemmas.List.{length-map, take_all}
+use Rattle.std.proofs.lemmas.List.{get_or-map, length-map, take_all}
 use Rattle.ranked_list.specs.declared.row.Row.{Row}
 use Rattle.limits.specs.declared.TheConstants.{MAX_OBJECTS}
 use Rattle.source_api.specs.declared.counts.Counts.{Counts}
 use Rattle.fetcher.specs.declared.slot.Slot.{Slot}
-use Rattle.catalog_open.specs.Slots.{of_slot}
+use Rattle.catalog_open.specs.Slots.{of_slot, sources_in}
 use Rattle.source_api.specs.Places.{SameAtEach}
 use Rattle.catalog_text.specs.Catalog.{Listed as Entry}
 use Rattle.catalog_open.specs.declared.opened.Opening.{Opening}
@@ -20,6 +20,7 @@ use Rattle.query_server.specs.Entries.{AreEntriesOf, IsSized}
 use Rattle.query_server.specs.OpenedEntry.{OpenedEntry}
 use Rattle.query_server.specs.OpenedEntry.TheVariants.{Opened, TooLarge}
 use Rattle.query_server.specs.Homes.{AreHomes, home_at, home_of}
+use Rattle.query_server.specs.Reopening.{IsAtHand}
 use Rattle.query_server.specs.declared.server.Served.{Served}
 use Rattle.query_server.specs.declared.server.Served.TheVariants.{Ended, PortFault as AtFault, Memory as NoMemory}
 use Rattle.call_ends.specs.Shelves.{Shelf}
@@ -111,6 +112,26 @@ are_homes lists versions catalog W before now openings s sources entries is many
         let opening : IsOpening lists versions catalog s W before now place (Open t.size source t.version) =
         subst (IsOpening lists versions catalog s W before now place) t.open_as (are.each place t.within) in
         opening.1
+
+-- each list that is open has the version that its source has at hand
+module _ (lists : List ℕ → Option (List Row)) (versions : List ℕ → Option ℕ) (catalog : List Entry) (W : ℕ → Type 0) (before now : Counted) where
+  hand_opened : {S : Type 0} (list : S → Option (List Row)) (at_hand : S → ℕ) (slots : List (Slot S)) (places counts : List ℕ) (place : ℕ) (o : Opening)
+      → IsOpening lists versions catalog (sources_in list at_hand slots places counts) W before now place o → IsAtHand at_hand slots (entry_of o)
+  hand_opened list at_hand slots places counts place Closed is = tt
+  hand_opened {S} list at_hand slots places counts place (Open size source version) is = go (nat_le size MAX_OBJECTS)
+    where
+      go : (b : Bool) → IsAtHand at_hand slots (if b then Opened size source version else TooLarge size)
+      go true = λ d l. sym is.1.at.at_hand ∙ get_or-map (of_slot at_hand) slots source d 0 l
+      go false = tt
+
+  pub are_at_hand : {S : Type 0} (openings : List Opening) (list : S → Option (List Row)) (at_hand : S → ℕ) (slots : List (Slot S)) (places counts : List ℕ)
+      (entries : List OpenedEntry) → entries ≡ map entry_of openings → AreOpened lists versions catalog W before now openings (sources_in list at_hand slots places counts)
+      → All (IsAtHand at_hand slots) entries
+  are_at_hand openings list at_hand slots places counts entries is are =
+      subst (All (IsAtHand at_hand slots)) (sym is)
+      (λ i d l. let there : i < length openings = (let e = length-map openings entry_of in omega (arith, e, l)) in
+      subst (IsAtHand at_hand slots) (sym (get_or-map entry_of openings i Closed d there))
+      (hand_opened list at_hand slots places counts i (opening_at openings i) (are.each i there)))
 
 -- putting sources back asks for none
 once_back : (catalog : List Entry) (marks : List Bool) (back : List Used) (before mid now : Counted) → AsksEachOnce catalog marks before mid → PutsBack back mid now

@@ -7,6 +7,7 @@ ghost use Rattle.catalog_open.specs.Slots.{IsIdle, sources_in};
 ghost use Rattle.catalog_open.specs.Openings.{AreOpened, AsksEachAtMostOnce, AsksEachOnce, IsKnownAt};
 ghost use Rattle.query_server.specs.Entries.{AreEntriesOf};
 ghost use Rattle.query_server.specs.Homes.{AreHomes, home_of};
+ghost use Rattle.query_server.specs.Reopening.{IsAtHand};
 ghost use Rattle.call_ends.specs.Calls.{shelf_as};
 ghost use Rattle.port_calls.specs.Ports.{ports_of};
 ghost use Rattle.port_calls.specs.Opening.{IsOneOf, entry_of, every};
@@ -83,6 +84,7 @@ fn open_all<W: Threads + Sync, H: Shelf>(
     ensures entries { IfOk result (λ entries. AreEntriesOf catalog.now entries.items) }
     ensures became { IfOk result (λ entries. entries.items ≡ map entry_of opened.new.openings.items) }
     ensures homes { IfOk result (λ entries. AreHomes (length slots.new.items) (map home_of entries.items)) }
+    ensures at_hand { IfOk result (λ entries. All (IsAtHand H.Item.at_hand slots.new.items) entries.items) }
 {
     let Ok(marks) = mark_every(alloc, catalog) else {
         return Err(Memory);
@@ -107,6 +109,7 @@ fn serve_at<W: Threads + Wait + Sync, S: Source, P: Port>(
     requires settings { AreSettings options.now.settings }
     requires few { length slots.old.items < 2 ^ 32 }
     requires homes { AreHomes (length slots.old.items) (map home_of lists.old.entries) }
+    requires at_hand { All (IsAtHand S.at_hand slots.old.items) lists.old.entries }
     requires empty { All IsIdle slots.old.items }
     ensures idle { All IsIdle slots.new.items }
     ensures many { length slots.new.items ≡ length slots.old.items }

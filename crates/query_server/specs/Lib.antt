@@ -2,6 +2,8 @@
 pub mod Accepting
 -- Which sources the open lists of a catalog have, and how many objects a pool is to have of each.
 pub mod Homes
+-- What asking sources for their sizes again makes of lists.
+pub mod Reopening
 -- What a server leaves of the sources, and how it ends.
 pub mod Serving
 -- The lists that a server answers over.

@@ -16,6 +16,10 @@ pub record KeepsSources {S : Type 0} (list : S → Option (List Row)) (counts : 
   pub lists : (i : ℕ) (d : Slot S) → i < length before → list (slice_index_or after i d).source ≡ list (slice_index_or before i d).source
   pub later : (i : ℕ) (d : Slot S) → i < length before → NoneFell (counts (slice_index_or before i d).source) (counts (slice_index_or after i d).source)
 
+-- the sources have the versions at hand that they had
+pub record KeepsVersions {S : Type 0} (at_hand : S → ℕ) (before after : List (Slot S)) : Type 0 where
+  pub each : (i : ℕ) (d : Slot S) → i < length before → at_hand (slice_index_or after i d).source ≡ at_hand (slice_index_or before i d).source
+
 -- how serving at most so many links of a port ends; want of memory is free
 abbrev pub ServesLinks : ℕ → Option (List (List ℕ)) → Option (List (List ℕ)) → ℕ → ℕ → Served → Type 0
 ServesLinks asked links links_now faults faults_now (served.Ended count) = TookAll asked links links_now faults faults_now count

@@ -1,10 +1,11 @@
 //! Generations of a server.
 
-ghost use Rattle.std.specs.Prelude.{◌≡◌, ◌<◌, ◌^◌, ℕ, List, None, All, length, map};
+ghost use Rattle.std.specs.Prelude.{◌≡◌, ◌<◌, ◌^◌, ℕ, List, None, All, OnOk, false, length, map};
 ghost use Rattle.limits.specs.Ranges.{AreSettings};
 ghost use Rattle.batch_run.specs.Crews.{IsNewCrew};
 ghost use Rattle.query_server.specs.Homes.{AreHomes, AreAtHome, HaveHomes, IsCounted, home_of};
-ghost use Rattle.query_server.specs.Serving.{KeepsSources};
+ghost use Rattle.query_server.specs.Reopening.{AsksSome, IsAtHand, ReopensAll};
+ghost use Rattle.query_server.specs.Serving.{KeepsSources, KeepsVersions};
 
 use super::counting::counts_of;
 use super::homes::homes_of;
@@ -35,6 +36,7 @@ fn serve_crew<W: Threads + Wait + Sync, S: Source, L: Link + Send + Drop>(
     requires new { (counts : List ℕ) × IsNewCrew counts 0 settings.workers crew.old × (length counts ≡ length slots.old)
         × All (IsCounted counts) catalog.now.entries }
     ensures kept { KeepsSources S.list S.counts slots.old slots.new }
+    ensures versions { KeepsVersions S.at_hand slots.old slots.new }
     ensures empty { All (λ slot. slot.feeder ≡ None) slots.new }
 {
     lend(&mut crew.feeders, slots);
@@ -64,8 +66,10 @@ fn serve_generation<W: Threads + Wait + Sync, S: Source, L: Link + Send + Drop>(
     requires settings { AreSettings settings }
     requires few { length slots.old < 2 ^ 32 }
     requires homes { HaveHomes (length slots.old) catalog.now.entries }
+    requires at_hand { All (IsAtHand S.at_hand slots.old) catalog.now.entries }
     requires empty { All (λ slot. slot.feeder ≡ None) slots.old }
     ensures kept { KeepsSources S.list S.counts slots.old slots.new }
+    ensures versions { KeepsVersions S.at_hand slots.old slots.new }
     ensures empty { All (λ slot. slot.feeder ≡ None) slots.new }
 {
     let Ok(counts) = counts_of(alloc, catalog.entries(), slots.len()) else {
@@ -90,7 +94,8 @@ fn reopen<S: Source>(
     requires home { AreAtHome homes.now catalog.old.entries }
     requires many { length homes.now ≡ length catalog.old.entries }
     requires empty { All (λ slot. slot.feeder ≡ None) slots.old }
-    ensures kept { KeepsSources S.list S.counts slots.old slots.new }
+    ensures asks { AsksSome S.list S.counts S.calls homes.now slots.old slots.new }
+    ensures reopens { OnOk result (ReopensAll S.list S.counts S.calls S.at_hand homes.now catalog.old.entries catalog.new.entries slots.old slots.new) }
     ensures empty { All (λ slot. slot.feeder ≡ None) slots.new }
     ensures catalog { catalog.new.catalog ≡ catalog.old.catalog }
     ensures home { AreAtHome homes.now catalog.new.entries }
@@ -118,11 +123,13 @@ fn serve_generations<W: Threads + Wait + Sync, S: Source, L: Link + Send + Drop>
     requires homes { AreHomes (length slots.old) homes.now }
     requires home { AreAtHome homes.now catalog.old.entries }
     requires many { length homes.now ≡ length catalog.old.entries }
+    requires at_hand { All (IsAtHand S.at_hand slots.old) catalog.old.entries }
     requires empty { All (λ slot. slot.feeder ≡ None) slots.old }
     ensures kept { KeepsSources S.list S.counts slots.old slots.new }
     ensures empty { All (λ slot. slot.feeder ≡ None) slots.new }
     ensures catalog { catalog.new.catalog ≡ catalog.old.catalog }
     ensures home { AreAtHome homes.now catalog.new.entries }
+    ensures at_hand { OnOk result (All (IsAtHand S.at_hand slots.new) catalog.new.entries) }
 {
     for _ in rt.forever() {
         let Ok(()) = serve_generation(rt, alloc, catalog, slots, queue, settings) else {
@@ -151,11 +158,13 @@ pub(crate) fn serve_side<W: Threads + Wait + Sync, S: Source, L: Link + Send + D
     requires settings { AreSettings settings }
     requires few { length slots.old < 2 ^ 32 }
     requires homes { AreHomes (length slots.old) (map home_of catalog.old.entries) }
+    requires at_hand { All (IsAtHand S.at_hand slots.old) catalog.old.entries }
     requires empty { All (λ slot. slot.feeder ≡ None) slots.old }
     ensures kept { KeepsSources S.list S.counts slots.old slots.new }
     ensures empty { All (λ slot. slot.feeder ≡ None) slots.new }
     ensures catalog { catalog.new.catalog ≡ catalog.old.catalog }
     ensures home { AreAtHome (map home_of catalog.old.entries) catalog.new.entries }
+    ensures at_hand { result ≡ false → All (IsAtHand S.at_hand slots.new) catalog.new.entries }
 {
     let Ok(homes) = homes_of(alloc, catalog.entries()) else {
         queue.leave(rt);

@@ -1,10 +1,9 @@
 //! Asking the sources for their sizes again.
 
 ghost use Rattle.std.specs.Prelude.{◌≡◌, ◌<◌, ℕ, length, Some, None, All, IfOk};
-ghost use Rattle.source_api.specs.Counting.{NoneFell};
 ghost use Rattle.server_conn.specs.Entries.{IsSized};
 ghost use Rattle.query_server.specs.Homes.{AreHomes, AreAtHome, IsAtHome};
-ghost use Rattle.query_server.specs.Serving.{KeepsSources};
+ghost use Rattle.query_server.specs.Reopening.{AsksOne, AsksSome, IsAsked, IsByItsSize, Reopens, ReopensAll, ReopensAt};
 
 use fetcher::Slot;
 use limits::{MAX_OBJECTS, Memory};
@@ -16,6 +15,7 @@ use std::alloc::Global;
 fn entry_of(size: u64, source: u32, version: u64) -> OpenedEntry
     ensures sized { IsSized result }
     ensures home { IsAtHome (Some source) result }
+    ensures states { IsByItsSize size version result }
 {
     if size > u64::from(MAX_OBJECTS) {
         return OpenedEntry::TooLarge { count: size };
@@ -27,10 +27,10 @@ fn entry_of(size: u64, source: u32, version: u64) -> OpenedEntry
     }
 }
 
-/// Asks the source of this number for its size.
+/// Asks the source of this number for its size, and for nothing else.
 fn ask_again<S: Source>(alloc: Global, source: &mut S, number: u32) -> Result<OpenedEntry, Memory>
-    ensures list { S.list source.new ≡ S.list source.old }
-    ensures later { NoneFell (S.counts source.old) (S.counts source.new) }
+    ensures asked { IsAsked S.list S.counts S.calls source.old source.new }
+    ensures reopens { IfOk result (Reopens S.list S.counts S.calls S.at_hand source.old source.new) }
     ensures sized { IfOk result IsSized }
     ensures home { IfOk result (IsAtHome (Some number)) }
 {
@@ -53,8 +53,9 @@ fn entry_again<S: Source>(
     requires within { (source : ℕ) → home ≡ Some source → source < length slots.old }
     requires sized { IsSized entry }
     requires home { IsAtHome home entry }
-    ensures kept { KeepsSources S.list S.counts slots.old slots.new }
+    ensures asks { AsksOne S.list S.counts S.calls home slots.old slots.new }
     ensures empty { All (λ slot. slot.feeder ≡ None) slots.old → All (λ slot. slot.feeder ≡ None) slots.new }
+    ensures reopens { IfOk result (ReopensAt S.list S.counts S.calls S.at_hand slots.old slots.new home entry) }
     ensures sized { IfOk result IsSized }
     ensures home { IfOk result (IsAtHome home) }
 {
@@ -64,7 +65,7 @@ fn entry_again<S: Source>(
     }
 }
 
-/// What becomes now of all lists.
+/// What becomes now of all lists, each of whose sources is asked once at most. The source of no list is asked for nothing.
 pub(crate) fn entries_again<S: Source>(
     alloc: Global,
     homes: &[Option<u32>],
@@ -75,8 +76,9 @@ pub(crate) fn entries_again<S: Source>(
     requires home { AreAtHome homes.now entries.now }
     requires sized { All IsSized entries.now }
     requires many { length homes.now ≡ length entries.now }
-    ensures kept { KeepsSources S.list S.counts slots.old slots.new }
+    ensures asks { AsksSome S.list S.counts S.calls homes.now slots.old slots.new }
     ensures empty { All (λ slot. slot.feeder ≡ None) slots.old → All (λ slot. slot.feeder ≡ None) slots.new }
+    ensures reopens { IfOk result (λ now. ReopensAll S.list S.counts S.calls S.at_hand homes.now entries.now now.items slots.old slots.new) }
     ensures many { IfOk result (λ now. length now.items ≡ length entries.now) }
     ensures sized { IfOk result (λ now. All IsSized now.items) }
     ensures home { IfOk result (λ now. AreAtHome homes.now now.items) }

@@ -1,8 +1,9 @@
 //! A server.
 
-ghost use Rattle.std.specs.Prelude.{◌≡◌, ◌<◌, ◌^◌, None, All, length, map};
+ghost use Rattle.std.specs.Prelude.{◌≡◌, ◌≢◌, ◌<◌, ◌^◌, None, All, length, map};
 ghost use Rattle.limits.specs.Ranges.{AreSettings};
 ghost use Rattle.query_server.specs.Homes.{AreHomes, AreAtHome, home_of};
+ghost use Rattle.query_server.specs.Reopening.{IsAtHand};
 ghost use Rattle.query_server.specs.Serving.{AsksForLinks, KeepsSources, ServesLinks};
 
 use super::accepting::{Accepted, accept_all};
@@ -49,9 +50,9 @@ fn accept_side<P: Port>(rt: &impl Wait, port: &mut P, queue: &LinkQueue<P::L>, c
 /// returns, unless memory was wanted. The call may wait for ever.
 ///
 /// A source that moves to another version ends a generation: no connection begins until those that were begun have ended, and then each
-/// source of a list that was open at first is asked for its size once a further link has come, the catalog gets what became of the
-/// lists, and a new pool is made. So the answers of a generation are of one version of each list. A source that can't be opened in one
-/// generation is asked again in the next.
+/// source of a list that was open at first is asked for its size, and for nothing else, once a further link has come, the catalog gets
+/// what became of the lists, and a new pool is made. So the answers of a generation are of one version of each list, the one that its
+/// source has at hand. A source that can't be opened in one generation is asked again in the next.
 ///
 /// *Cost*: the queue, and for each generation a pool and a pass for each worker.
 #[tactic(auto, using(crate::proofs::TakingLaws::asked_some))]
@@ -67,6 +68,7 @@ pub fn serve_all<W: Threads + Wait + Sync, S: Source, P: Port>(
     requires settings { AreSettings settings }
     requires few { length sources.old < 2 ^ 32 }
     requires homes { AreHomes (length sources.old) (map home_of catalog.old.entries) }
+    requires at_hand { All (IsAtHand S.at_hand sources.old) catalog.old.entries }
     requires empty { All (λ slot. slot.feeder ≡ None) sources.old }
     ensures serves { ServesLinks conns (P.links port.old) (P.links port.new) (P.faults port.old) (P.faults port.new) result }
     ensures closed { P.closed port.new ≡ P.closed port.old }
@@ -75,6 +77,7 @@ pub fn serve_all<W: Threads + Wait + Sync, S: Source, P: Port>(
     ensures empty { All (λ slot. slot.feeder ≡ None) sources.new }
     ensures catalog { catalog.new.catalog ≡ catalog.old.catalog }
     ensures home { AreAtHome (map home_of catalog.old.entries) catalog.new.entries }
+    ensures at_hand { result ≢ Served.Memory → All (IsAtHand S.at_hand sources.new) catalog.new.entries }
 {
     let Ok(queue) = LinkQueue::make(alloc, settings.workers) else {
         return Served::Memory;
@@ -86,7 +89,7 @@ pub fn serve_all<W: Threads + Wait + Sync, S: Source, P: Port>(
         rt,
         &mut ||
             requires { AreSettings settings × (length sources.now < 2 ^ 32) × AreHomes (length sources.now) (map home_of catalog.now.entries)
-                × All (λ slot. slot.feeder ≡ None) sources.now }
+                × All (IsAtHand S.at_hand sources.now) catalog.now.entries × All (λ slot. slot.feeder ≡ None) sources.now }
         { short = serve_side(rt, alloc, catalog, sources, line, settings) },
         &mut || { served = accept_side(rt, port, line, conns) },
     );

@@ -3,7 +3,8 @@
 ghost use Rattle.std.specs.Prelude.{◌≡◌, ◌≤◌, ◌<◌, None, All, length, map, IfSome};
 ghost use Rattle.tk_io.specs.LinksInMemory.{IsUnused};
 ghost use Rattle.query_server.specs.Homes.{AreHomes, home_of};
-ghost use Rattle.test_server.specs.Four.{four_entries};
+ghost use Rattle.query_server.specs.Reopening.{IsAtHand};
+ghost use Rattle.test_server.specs.Four.{four_entries, version_of};
 
 use super::desk::open_lists;
 use fetcher::Slot;
@@ -68,25 +69,27 @@ pub(crate) fn link_of(
     Some(link)
 }
 
-/// The slot of a source that was asked for its size once. None without memory.
-fn slot_of(alloc: Global, held: &Held) -> Option<Slot<MemSource>>
-    ensures { IfSome result (λ slot. slot.feeder ≡ None) }
+/// The slot of a source that was asked for its size once, and stated this version. None without memory.
+fn slot_of(alloc: Global, held: &Held, version: u64) -> Option<Slot<MemSource>>
+    ensures empty { IfSome result (λ slot. slot.feeder ≡ None) }
+    ensures at_hand { IfSome result (λ slot. slot.source.version ≡ version) }
 {
     let mut source = source_of(alloc, held)?;
-    if source.size(alloc).is_err() {
+    if source.size(alloc).is_err() || source.version() != version {
         drop(source);
         return None;
     }
     Some(Slot::make(source))
 }
 
-/// The slots of both sources. None without memory.
+/// The slots of both sources, which have the versions of their lists at hand. None without memory.
 fn two_slots(alloc: Global, first: &Held) -> Option<Vec<Slot<MemSource>>>
     ensures size { IfSome result (λ slots. length slots.items ≡ 2) }
     ensures empty { IfSome result (λ slots. All (λ slot. slot.feeder ≡ None) slots.items) }
+    ensures at_hand { IfSome result (λ slots. All (IsAtHand version_of slots.items) four_entries) }
 {
-    let first = slot_of(alloc, first)?;
-    let second = slot_of(alloc, &B)?;
+    let first = slot_of(alloc, first, 7)?;
+    let second = slot_of(alloc, &B, 0)?;
     let Ok(slots) = vec![in alloc; first, second] else {
         return None;
     };

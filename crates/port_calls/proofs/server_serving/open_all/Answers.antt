@@ -6,7 +6,7 @@ use Rattle.catalog_open.specs.Slots.{IsIdle, of_slot}
 use Rattle.catalog_open.proofs.Once.{few_none, holds_so}
 use Rattle.catalog_open.proofs.Opens.{opened_as, opened_none}
 use Rattle.port_calls.specs.Opening.{IsOneOf, entry_of, every}
-use Rattle.port_calls.proofs.ListLaws.{are_entries, are_homes, opened_every, if_so, short}
+use Rattle.port_calls.proofs.ListLaws.{are_at_hand, are_entries, are_homes, opened_every, if_so, short}
 use Rattle.port_calls.proofs.server_serving.open_all.Goals as goal
 
 pub returns-in_default : goal.returns-in_default
@@ -31,6 +31,7 @@ returns-in_default g c =
       entries = tt;
       became = tt;
       homes = tt;
+      at_hand = tt;
     }
 
 pub returns-in-Err : goal.returns-in-Err
@@ -52,6 +53,7 @@ returns-in-Err g c =
       entries = tt;
       became = tt;
       homes = tt;
+      at_hand = tt;
     }
 
 pub returns-in-Ok-opening : goal.returns-in-Ok-opening
@@ -75,6 +77,9 @@ returns-in-Ok-opening g c =
       few_asks = subst (λ ms. AsksEachAtMostOnce catalog ms (g.H.Shelf.at c.args.shelf.now) (g.H.Shelf.at w.new.shelf)) are w.ensures.few_asks;
       entries = if_so c.entries_of.result _ _ c.entries_of.ensures (λ entries is. are_entries catalog openings entries.items (is ∙ ap (map entry_of) c.deref-in-Ok-opening.ensures.value) c.in-Ok-opening.ensures.all);
       became = if_so c.entries_of.result _ _ c.entries_of.ensures (λ entries is. is ∙ ap (map entry_of) c.deref-in-Ok-opening.ensures.value);
+      at_hand = if_so c.entries_of.result _ _ c.entries_of.ensures
+          (λ entries is. are_at_hand (g.H.Shelf.lists c.args.shelf.now) (g.H.Shelf.versions c.args.shelf.now) catalog _ (g.H.Shelf.at c.args.shelf.now) (g.H.Shelf.at w.new.shelf) openings
+          g.H.Item.Source.list g.H.Item.Source.at_hand w.new.slots.items _ _ entries.items (is ∙ ap (map entry_of) c.deref-in-Ok-opening.ensures.value) w.ensures.opened);
       homes = if_so c.entries_of.result _ _ c.entries_of.ensures
           (λ entries is. are_homes (g.H.Shelf.lists c.args.shelf.now) (g.H.Shelf.versions c.args.shelf.now) catalog _ (g.H.Shelf.at c.args.shelf.now) (g.H.Shelf.at w.new.shelf) openings _ (length w.new.slots.items) entries.items (is ∙ ap (map entry_of) c.deref-in-Ok-opening.ensures.value) many w.ensures.opened);
     }
