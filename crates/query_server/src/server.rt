@@ -52,7 +52,8 @@ fn accept_side<P: Port>(rt: &impl Wait, port: &mut P, queue: &LinkQueue<P::L>, c
 /// A source that moves to another version ends a generation: no connection begins until those that were begun have ended, and then each
 /// source of a list that was open at first is asked for its size, and for nothing else, once a further link has come, the catalog gets
 /// what became of the lists, and a new pool is made. So the answers of a generation are of one version of each list, the one that its
-/// source has at hand. A source that can't be opened in one generation is asked again in the next.
+/// source has at hand. A list that was open at first and can't be opened in one generation is asked for again in the next; one that wasn't
+/// open at first stays so.
 ///
 /// *Cost*: the queue, and for each generation a pool and a pass for each worker.
 #[tactic(auto, using(crate::proofs::TakingLaws::asked_some))]
