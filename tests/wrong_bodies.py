@@ -7,6 +7,7 @@ A folder of wrong_bodies/ is a crate's, each file one edit as `rt must-fail` rea
 each further one some 10 to 30 s, so all take more than an hour. While a crate's are tried its folder `must-fail/` stands aside. Ends with the
 status 0 exactly where each was refused. `tests/run.py` says whether each can still be applied to the text of its crate.
 """
+import argparse
 import pathlib
 import shutil
 import subprocess
@@ -60,8 +61,15 @@ def refuses_all(name):
             aside.rename(folder)
 
 
-def main(names):
-    failed = [name for name in names or sorted(it.name for it in BODIES.iterdir()) if not refuses_all(name)]
+def main():
+    crates = sorted(it.name for it in BODIES.iterdir())
+    parser = argparse.ArgumentParser(description=__doc__.splitlines()[0])
+    parser.add_argument("crates", nargs="*", metavar="CRATE", help=f"all if none is named: {', '.join(crates)}")
+    named = parser.parse_args().crates
+    unknown = sorted(set(named) - set(crates))
+    if unknown:
+        parser.error(f"no wrong bodies of {', '.join(unknown)}")
+    failed = [name for name in named or crates if not refuses_all(name)]
     print(f"not refused, or not tried: {' '.join(failed)}" if failed else "each was refused")
     return 1 if failed else 0
 
@@ -72,4 +80,4 @@ def tests():
 
 
 if __name__ == "__main__":
-    sys.exit(main(sys.argv[1:]))
+    sys.exit(main())
