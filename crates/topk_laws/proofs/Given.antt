@@ -28,6 +28,24 @@ use Rattle.topk_laws.proofs.OpenedRuns.{OpenedRun}
 pub given_from_none : (number most before now : ℕ) → before ≡ 0 → raised now 0 ≡ raised before number → number ≤ most → most ≤ 200000 → now ≤ most
 given_from_none number most before now none up few small = omega (arith, none, up, few, small)
 
+-- the number of a source of a run is one of its sizes, and of the counts with which it began
+pub numbered : (r : CatalogRun) (outcomes : List LineOutcome) (run : IsRun r outcomes) (source : ℕ) → source < length run.sources.places
+    → (source < length run.sources.counts) × (source < length run.begun)
+numbered r outcomes run source within =
+    let counts_long = run.opened.many_counts in
+    let told_long = run.opened.many_told in
+    let begun_long = run.ran.many in
+    (omega (arith, within, counts_long), omega (arith, within, told_long, begun_long))
+
+-- the same where memory was wanting
+pub cut_numbered : (r : CatalogRun) (cut : IsCutRun r) (source : ℕ) → source < length cut.sources.places
+    → (source < length cut.sources.counts) × (source < length cut.begun)
+cut_numbered r cut source within =
+    let counts_long = cut.opened.many_counts in
+    let told_long = cut.opened.many_told in
+    let begun_long = cut.read.many in
+    (omega (arith, within, counts_long), omega (arith, within, told_long, begun_long))
+
 -- by what was used of a source that had given nothing, and its closing state
 gave_used : (settings : Settings) (queries : List Inquiry) (source size : ℕ) (s : State) (before now : Counts) (used : Use) → IsUnread before
     → s.count ≡ size → (sound : IsSound s) → IsUsed settings queries source s before now used
@@ -56,27 +74,19 @@ pub cut_gave_what_is_asked : (r : CatalogRun) (cut : IsCutRun r) → (source : �
     → GaveWhatIsAsked r.settings (begun_of cut.read.cut.stood) source (size_at cut.sources.counts source) (counts_at cut.now source)
 cut_gave_what_is_asked r cut source within =
     let b = cut.read.cut in
-    let counts_long = cut.opened.many_counts in
-    let told_long = cut.opened.many_told in
-    let begun_long = cut.read.many in
-    let sized : source < length cut.sources.counts = omega (arith, within, counts_long) in
-    let there : source < length cut.begun = omega (arith, within, told_long, begun_long) in
-    let closing = b.read.closing source sized in
+    let at = cut_numbered r cut source within in
+    let closing = b.read.closing source at.0 in
     gave_used r.settings (begun_of b.stood) source (size_at cut.sources.counts source) (state_at b.states source) (counts_at cut.begun source)
-    (counts_at cut.now source) (use_at b.uses source) (cut.unread source no_counts there) closing.count closing.sound (b.read.used source sized)
+    (counts_at cut.now source) (use_at b.uses source) (cut.unread source no_counts at.1) closing.count closing.sound (b.read.used source at.0)
 
 pub gave_what_is_asked : (r : CatalogRun) (outcomes : List LineOutcome) (run : IsRun r outcomes) → (source : ℕ) → source < length run.sources.places
     → GaveWhatIsAsked r.settings run.ran.ran.queries source (size_at run.sources.counts source) (counts_at run.now source)
 gave_what_is_asked r outcomes run source within =
     let b = run.ran.ran in
-    let counts_long = run.opened.many_counts in
-    let told_long = run.opened.many_told in
-    let begun_long = run.ran.many in
-    let sized : source < length run.sources.counts = omega (arith, within, counts_long) in
-    let there : source < length run.begun = omega (arith, within, told_long, begun_long) in
-    let closing = b.closing source sized in
+    let at = numbered r outcomes run source within in
+    let closing = b.closing source at.0 in
     gave_used r.settings b.queries source (size_at run.sources.counts source) (state_at b.states source) (counts_at run.begun source) (counts_at run.now source) (use_at run.ran.batch.uses source)
-    (run.unread source no_counts there) closing.count closing.sound (b.used source sized)
+    (run.unread source no_counts at.1) closing.count closing.sound (b.used source at.0)
 
 -- what is counted of sources that were put back
 rows_sum : (c : Counts) (xs : List Counts) → min (added_all c xs).rows_given (2 ^ 64 - 1) ≡ min (c.rows_given + sum_by (λ (x : Counts). x.rows_given) xs) (2 ^ 64 - 1)

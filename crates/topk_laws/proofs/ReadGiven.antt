@@ -36,7 +36,7 @@ use Rattle.topk_laws.specs.Giving.{CutLinesHaveTables, GaveSparingly, GaveWhatIs
 use Rattle.topk_laws.specs.ToldTables.{ShelfTellsTables}
 use Rattle.topk_laws.proofs.OpenedRuns.{cut_own, of_cut}
 use Rattle.topk_laws.proofs.ToldLists.{are_read, are_told, has_lists, has_read, lists_read, lists_told, wanted_within}
-use Rattle.topk_laws.proofs.Given.{cut_gave_what_is_asked, gave_what_is_asked, given_from_none}
+use Rattle.topk_laws.proofs.Given.{cut_gave_what_is_asked, cut_numbered, gave_what_is_asked, given_from_none, numbered}
 use Rattle.topk_laws.proofs.Unread.{CutGradesAloneGiveNoRow, GradesAloneGiveNoRow, cut_gives_no_row, gives_no_row}
 
 -- the laws of batches, as these lemmas take them
@@ -102,14 +102,10 @@ gave_within : (r : CatalogRun) (outcomes : List LineOutcome) (run : IsRun r outc
     → GaveWhatIsRead r.settings readings source (size_at run.sources.counts source) (counts_at run.now source)
 gave_within r outcomes run readings source within bound =
     let b = run.ran.ran in
-    let counts_long = run.opened.many_counts in
-    let told_long = run.opened.many_told in
-    let begun_long = run.ran.many in
-    let sized : source < length run.sources.counts = omega (arith, within, counts_long) in
-    let there : source < length run.begun = omega (arith, within, told_long, begun_long) in
-    let closing = b.closing source sized in
+    let at = numbered r outcomes run source within in
+    let closing = b.closing source at.0 in
     gave_read r.settings b.queries source (size_at run.sources.counts source) readings (state_at b.states source) (counts_at run.begun source)
-    (counts_at run.now source) (use_at run.ran.batch.uses source) (run.unread source no_counts there) closing.count closing.sound (b.used source sized) (bound sized)
+    (counts_at run.now source) (use_at run.ran.batch.uses source) (run.unread source no_counts at.1) closing.count closing.sound (b.used source at.0) (bound at.0)
 
 pub gave_sparingly : OneRunsBound → AnswersBound → GradesAloneGiveNoRow → (r : CatalogRun) (outcomes : List LineOutcome) (run : IsRun r outcomes) (source : ℕ)
     → source < length run.sources.places
@@ -132,20 +128,16 @@ pub cut_gave_sparingly : CutRunsBound → CutGradesAloneGiveNoRow → (r : Catal
     → HadGivenSparingly r cut source (size_at cut.sources.counts source) (counts_at cut.now source)
 cut_gave_sparingly bound no_row r cut source within =
     let b = cut.read.cut in
-    let counts_long = cut.opened.many_counts in
-    let told_long = cut.opened.many_told in
-    let begun_long = cut.read.many in
-    let sized : source < length cut.sources.counts = omega (arith, within, counts_long) in
-    let there : source < length cut.begun = omega (arith, within, told_long, begun_long) in
-    let closing = b.read.closing source sized in
+    let at = cut_numbered r cut source within in
+    let closing = b.read.closing source at.0 in
     let over : BatchRun = batch_over r.settings cut.sources cut.begun cut.now cut.read.readies in
     record {
       asked = cut_gave_what_is_asked r cut source within;
       unread = λ none. cut_gives_no_row no_row r cut source within none;
       read = λ lists has.
           gave_read r.settings (begun_of b.stood) source (size_at cut.sources.counts source) (one_readings lists cut.read.readies) (state_at b.states source)
-          (counts_at cut.begun source) (counts_at cut.now source) (use_at b.uses source) (cut.unread source no_counts there) closing.count closing.sound
-          (b.read.used source sized) (bound over b lists has.told has.tables source sized);
+          (counts_at cut.begun source) (counts_at cut.now source) (use_at b.uses source) (cut.unread source no_counts at.1) closing.count closing.sound
+          (b.read.used source at.0) (bound over b lists has.told has.tables source at.0);
     }
 
 -- where the shelf tells tables and nothing fails, the sources tell lists that form tables for the lines that ran

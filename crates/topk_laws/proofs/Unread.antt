@@ -30,7 +30,7 @@ use Rattle.topk_laws.proofs.ToldLists.{known_places}
 use Rattle.topk_laws.proofs.InOrder.{said_sorted}
 use Rattle.topk_laws.proofs.Failures.{many_places, said_there, source_there}
 use Rattle.topk_laws.proofs.OpenedRuns.{OpenedRun, cut_own, of_cut, of_run, stood_open}
-use Rattle.topk_laws.proofs.Given.{given_from_none}
+use Rattle.topk_laws.proofs.Given.{cut_numbered, given_from_none, numbered}
 
 -- a law of batches, as these lemmas take it
 abbrev pub GradesAloneGiveNoRow : Type 0
@@ -117,27 +117,19 @@ pub gives_no_row : GradesAloneGiveNoRow → (r : CatalogRun) (outcomes : List Li
     → source < length run.sources.places → IsOutOfOrder r.catalog run.sources.places source → (counts_at run.now source).rows_given ≡ 0
 gives_no_row law r outcomes run source within none =
     let b = run.ran.ran in
-    let counts_long = run.opened.many_counts in
-    let told_long = run.opened.many_told in
-    let begun_long = run.ran.many in
-    let sized : source < length run.sources.counts = omega (arith, within, counts_long) in
-    let there : source < length run.begun = omega (arith, within, told_long, begun_long) in
+    let at = numbered r outcomes run source within in
     let alone = all_by_grades r (of_run r outcomes run) run.ran.readies source none run.ran.own in
-    let used = law (batch_over r.settings run.sources run.begun run.now run.ran.readies) run.ran.batch b source sized alone in
+    let used = law (batch_over r.settings run.sources run.begun run.now run.ran.readies) run.ran.batch b source at.0 alone in
     none_given (use_at run.ran.batch.uses source).rows (counts_at run.begun source).rows_given (counts_at run.now source).rows_given used.1
-    (run.unread source no_counts there).rows (b.used source sized).rows
+    (run.unread source no_counts at.1).rows (b.used source at.0).rows
 
 -- so it is where memory was wanting
 pub cut_gives_no_row : CutGradesAloneGiveNoRow → (r : CatalogRun) (cut : IsCutRun r) (source : ℕ) → source < length cut.sources.places
     → IsOutOfOrder r.catalog cut.sources.places source → (counts_at cut.now source).rows_given ≡ 0
 cut_gives_no_row law r cut source within none =
     let b = cut.read.cut in
-    let counts_long = cut.opened.many_counts in
-    let told_long = cut.opened.many_told in
-    let begun_long = cut.read.many in
-    let sized : source < length cut.sources.counts = omega (arith, within, counts_long) in
-    let there : source < length cut.begun = omega (arith, within, told_long, begun_long) in
+    let at = cut_numbered r cut source within in
     let alone = all_by_grades r (of_cut r cut) cut.read.readies source none (cut_own r cut) in
-    let used = law (batch_over r.settings cut.sources cut.begun cut.now cut.read.readies) b source sized alone in
+    let used = law (batch_over r.settings cut.sources cut.begun cut.now cut.read.readies) b source at.0 alone in
     none_given (use_at b.uses source).rows (counts_at cut.begun source).rows_given (counts_at cut.now source).rows_given used.1
-    (cut.unread source no_counts there).rows (b.read.used source sized).rows
+    (cut.unread source no_counts at.1).rows (b.read.used source at.0).rows
