@@ -20,7 +20,7 @@ use Rattle.httparse.proofs.ChunkLemmas.{chunk_line_unique}
 use Rattle.wire.specs.Bodies.{Trailers, AreTrailers, print_trailers, AreShort, PassesLine, PassesTrailers, stated_length}
 use Rattle.wire.specs.Heads.{PassesRequest}
 use Rattle.wire.specs.Responses.{PassesHead}
-use Rattle.wire.specs.Parts.{Reads}
+use Rattle.wire.specs.Parts.{Reads, PassesLines}
 use Rattle.wire.proofs.PartLaws.{passes_found}
 
 -- what holds of a parse that is complete
@@ -62,59 +62,34 @@ pub long_head : (came : List ℕ) (len : ℕ) (head : ResponseHead) → ReadsRes
 long_head came len head reads is long more =
     inl (refl, passes_found IsResponseHead print_response (λ bytes a b r q x y. (response_unique bytes a b r q x y).0) 16384 came head (drop len came) reads (omega (arith, is, long)) more)
 
+-- bytes of which a front and an empty line have too many lines have them whatever follows
+exceeds : {A : Type 0} (Valid : A → Type 0) (print : A → List ℕ) (lines : A → ℕ) (came front behind : List ℕ) (part : A) (room : ℕ) → room ≡ 64
+    → came ≡ front ++ behind → Reads Valid print (front ++ 10 ∷ []) part [] → room < lines part
+    → ((more : List ℕ) (part : A) (rest : List ℕ) → Reads Valid print (came ++ more) part rest → room < lines part)
+    → (more : List ℕ) → PassesLines Valid print lines 64 (came ++ more)
+exceeds Valid print lines came front behind part room is same reads many overflows more = (
+  (front, behind ++ more, ap (λ (xs : List ℕ). xs ++ more) same ∙ append_assoc front behind more, part, reads, omega (arith, is, many)),
+  λ other rest found. let over = overflows more other rest found in omega (arith, is, over),
+)
+
 -- a request of too many lines
 pub many_request : (came : List ℕ) (room : ℕ) → room ≡ 64 → RequestExceeds room came → RequestOverflows room came → (more : List ℕ) → PassesRequest 64 (came ++ more)
-many_request came room is exceeds overflows more =
-    inr (
-      refl,
-      (
-        (
-          exceeds.0,
-          exceeds.1 ++ more,
-          ap (λ (xs : List ℕ). xs ++ more) exceeds.2 ∙ append_assoc exceeds.0 exceeds.1 more,
-          exceeds.3,
-          exceeds.4,
-          omega (arith, is, exceeds.5),
-        ),
-        λ head rest reads. let many = overflows more head rest reads in omega (arith, is, many),
-      ),
-    )
+many_request came room is passes overflows more =
+    inr (refl, exceeds IsRequestHead print_request (λ text. length text.fields) came passes.0 passes.1 passes.3 room is passes.2 passes.4 passes.5 overflows more)
 
 -- a response of too many lines
 pub many_head : (came : List ℕ) (room : ℕ) → room ≡ 64 → ResponseExceeds room came → ResponseOverflows room came → (more : List ℕ) → PassesHead 64 (came ++ more)
-many_head came room is exceeds overflows more =
-    inr (
-      refl,
-      (
-        (
-          exceeds.0,
-          exceeds.1 ++ more,
-          ap (λ (xs : List ℕ). xs ++ more) exceeds.2 ∙ append_assoc exceeds.0 exceeds.1 more,
-          exceeds.3,
-          exceeds.4,
-          omega (arith, is, exceeds.5),
-        ),
-        λ head rest reads. let many = overflows more head rest reads in omega (arith, is, many),
-      ),
-    )
+many_head came room is passes overflows more =
+    inr (refl, exceeds IsResponseHead print_response (λ head. length head.fields) came passes.0 passes.1 passes.3 room is passes.2 passes.4 passes.5 overflows more)
 
 -- too many trailer lines
 pub many_trailers : (came : List ℕ) (room : ℕ) → room ≡ 64 → SectionExceeds room came → SectionOverflows room came → (more : List ℕ) → PassesTrailers 64 (came ++ more)
-many_trailers came room is exceeds overflows more =
-    let t : Trailers = record { lines = exceeds.3; end = lf } in
+many_trailers came room is passes overflows more =
+    let last : Trailers = record { lines = passes.3; end = lf } in
     inr (
       refl,
-      (
-        (
-          exceeds.0,
-          exceeds.1 ++ more,
-          ap (λ (xs : List ℕ). xs ++ more) exceeds.2 ∙ append_assoc exceeds.0 exceeds.1 more,
-          t,
-          exceeds.4,
-          omega (arith, is, exceeds.5),
-        ),
-        λ t rest reads. let many = overflows more t.lines t.end rest reads in omega (arith, is, many),
-      ),
+      exceeds AreTrailers print_trailers (λ t. length t.lines) came passes.0 passes.1 last room is passes.2 passes.4 passes.5
+          (λ more t. overflows more t.lines t.end) more,
     )
 
 -- trailer lines within the limits

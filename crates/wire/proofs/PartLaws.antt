@@ -6,7 +6,7 @@ use Rattle.std.proofs.Math.Dec.{leb}
 use Rattle.std.proofs.Math.Seq.{take-append_seam}
 use Rattle.wire.specs.Parts.{Reads, HasNone, PassesBytes, Finds, Takes}
 use Rattle.wire.specs.LinkTold.{told, SameTold}
-use Rattle.wire.specs.declared.found.Found.{Found}
+use Rattle.wire.specs.declared.part.Found.{Found}
 use Rattle.wire.specs.declared.fault.WireFault.{WireFault}
 use Rattle.wire.specs.declared.fault.WireFault.TheVariants.{LinkFault, BadMessage, TooLong, Memory}
 use Rattle.wire.proofs.ToldLaws.{told_all, take_front}

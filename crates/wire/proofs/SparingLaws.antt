@@ -6,7 +6,7 @@ use Rattle.std.proofs.lemmas.List.Folds.{concat-append}
 use Rattle.tk_io.specs.Links.{IsUnread}
 use Rattle.wire.specs.Parts.{HasOne, HasNone, Finds, Takes}
 use Rattle.wire.specs.Sparing.{IsSparing, WereRead, ReadsSparingly, WasReadSparingly, ReadsOnce, GrewBy, OfRead}
-use Rattle.wire.specs.declared.found.Found.{Found}
+use Rattle.wire.specs.declared.part.Found.{Found}
 use Rattle.wire.proofs.PartLaws.{none_found}
 
 -- ---- pieces
@@ -114,10 +114,6 @@ of_then Holds More All came feed late a b c stays join one two =
     (append_assoc came (concat more) (concat others) ∙ ap (λ (zs : List ℕ). came ++ zs) (sym (concat-append more others)))
     (join ((came ++ concat more) ++ concat others) (feed ++ concat others) (stays (came ++ concat more) feed (concat others) x) y))
     one two
-
--- reads and then none
-pub sparing_kept : (IsWhole : List ℕ → Type 0) (came : List ℕ) (a b c : Option (List (List ℕ))) → ReadsSparingly IsWhole came a b → c ≡ b → ReadsSparingly IsWhole came a c
-sparing_kept IsWhole came a b c sparing same = subst (ReadsSparingly IsWhole came a) (sym same) sparing
 
 -- all reads of a link that was just given
 pub sparing_fresh : (IsWhole : List ℕ → Type 0) (a b : Option (List (List ℕ))) → IsUnread a → ReadsSparingly IsWhole [] a b → WasReadSparingly IsWhole b

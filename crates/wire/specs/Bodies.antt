@@ -8,7 +8,7 @@ use Rattle.httparse.specs.Ascii.{crlf_bytes}
 use Rattle.httparse.specs.Grammar.{Field, IsField, LineEnd, print_section, ChunkLine, IsChunkLine, print_chunk_line, chunk_size}
 use Rattle.limits.specs.declared.TheConstants.{MAX_HEAD, MAX_HEADERS, MAX_CHUNK_LINE, MAX_BODY}
 use Rattle.wire.specs.Heads.{count_named, all_named, first_named}
-use Rattle.wire.specs.Parts.{Reads, PassesBytes, PassesLines}
+use Rattle.wire.specs.Parts.{Reads, PassesBytes, PassesHeadLimits}
 use Rattle.wire.specs.declared.framing.Framing.{Framing}
 use Rattle.wire.specs.declared.framing.Framing.TheVariants.{Chunked, Length, ToEnd}
 
@@ -154,9 +154,7 @@ PassesChunk limit content bytes =
 
 -- trailer lines have more bytes or are more than their limits
 abbrev pub PassesTrailers : ℕ → List ℕ → Type 0
-PassesTrailers limit bytes =
-    ((limit ≡ MAX_HEAD) × PassesBytes AreTrailers print_trailers MAX_HEAD bytes)
-    ⊎ ((limit ≡ MAX_HEADERS) × PassesLines AreTrailers print_trailers (λ t. length t.lines) MAX_HEADERS bytes)
+PassesTrailers limit bytes = PassesHeadLimits AreTrailers print_trailers (λ t. length t.lines) limit bytes
 
 -- some chunks, and behind them one or trailer lines that pass a limit
 abbrev pub PassesChunks : ℕ → List ℕ → Type 0

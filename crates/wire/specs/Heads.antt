@@ -6,7 +6,7 @@ use Rattle.std.specs.Char.{is_ascii_alphanumeric, to_ascii_lowercase}
 use Rattle.httparse.specs.Grammar.{RequestHead, IsRequestHead, print_request, ReadsRequest}
 use Rattle.httparse.specs.Spans.{name_and_value}
 use Rattle.limits.specs.declared.TheConstants.{MAX_HEAD, MAX_HEADERS}
-use Rattle.wire.specs.Parts.{PassesBytes, PassesLines}
+use Rattle.wire.specs.Parts.{PassesHeadLimits}
 use Rattle.wire.specs.declared.fault.WireFault.{WireFault}
 use Rattle.wire.specs.declared.fault.WireFault.TheVariants.{LinkFault, BadMessage, TooLong, Memory}
 use Rattle.wire.specs.declared.request.Head.{Head}
@@ -63,9 +63,7 @@ IsNoRequest bytes = (text : RequestHead) (rest : List ℕ) → ReadsRequest byte
 
 -- more came than a limit on the head of a request allows
 abbrev pub PassesRequest : ℕ → List ℕ → Type 0
-PassesRequest limit bytes =
-    ((limit ≡ MAX_HEAD) × PassesBytes IsRequestHead print_request MAX_HEAD bytes)
-    ⊎ ((limit ≡ MAX_HEADERS) × PassesLines IsRequestHead print_request (λ text. length text.fields) MAX_HEADERS bytes)
+PassesRequest limit bytes = PassesHeadLimits IsRequestHead print_request (λ text. length text.fields) limit bytes
 
 -- what the bytes answer as a request
 abbrev pub AnswersRequest : List ℕ → Result Head WireFault → Type 0

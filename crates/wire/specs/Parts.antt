@@ -1,9 +1,10 @@
 -- Parts of a message that stand at the front of bytes: a kind of part is given by its valid trees, and by the bytes that each tree is printed as.
-use Rattle.std.specs.Prelude.{◌≡◌, ℕ, ◌<◌, ◌≤◌, List, [], ◌∷◌, ◌++◌, length, drop, Option, Some, None, IfSome, Result, Ok, Err, ⊤}
+use Rattle.std.specs.Prelude.{◌≡◌, ◌⊎◌, ℕ, ◌<◌, ◌≤◌, List, [], ◌∷◌, ◌++◌, length, drop, Option, Some, None, IfSome, Result, Ok, Err, ⊤}
 use Rattle.std.specs.Io.KnownBytes.{Consumes}
+use Rattle.limits.specs.declared.TheConstants.{MAX_HEAD, MAX_HEADERS}
 use Rattle.wire.specs.declared.fault.WireFault.{WireFault}
 use Rattle.wire.specs.declared.fault.WireFault.TheVariants.{LinkFault, BadMessage, TooLong, Memory}
-use Rattle.wire.specs.declared.found.Found.{Found}
+use Rattle.wire.specs.declared.part.Found.{Found}
 
 -- the bytes are a part of the kind and then the rest
 abbrev pub Reads : {A : Type 0} → (A → Type 0) → (A → List ℕ) → List ℕ → A → List ℕ → Type 0
@@ -28,6 +29,11 @@ PassesLines {A} Valid print lines limit bytes =
     ((front : List ℕ) × (rest : List ℕ) × (bytes ≡ front ++ rest)
     × (part : A) × Reads Valid print (front ++ 10 ∷ []) part [] × (limit < lines part))
     × ((part : A) (rest : List ℕ) → Reads Valid print bytes part rest → limit < lines part)
+
+-- more came than a head or trailers may have, of bytes or of lines
+abbrev pub PassesHeadLimits : {A : Type 0} → (A → Type 0) → (A → List ℕ) → (A → ℕ) → ℕ → List ℕ → Type 0
+PassesHeadLimits Valid print lines limit bytes =
+    ((limit ≡ MAX_HEAD) × PassesBytes Valid print MAX_HEAD bytes) ⊎ ((limit ≡ MAX_HEADERS) × PassesLines Valid print lines MAX_HEADERS bytes)
 
 -- what is found in bytes, whatever follows: a part of the kind with its length and what it says, none yet, none ever, or more than a limit
 abbrev pub Finds : {A T : Type 0} → (A → Type 0) → (A → List ℕ) → (A → T → Type 0) → (ℕ → List ℕ → Type 0) → List ℕ → Result (Option (Found T)) WireFault → Type 0

@@ -4,7 +4,7 @@ use Rattle.httparse.specs.Grammar.{ResponseHead, IsResponseHead, print_response,
 use Rattle.httparse.specs.Spans.{name_and_value}
 use Rattle.limits.specs.declared.TheConstants.{MAX_HEAD, MAX_HEADERS}
 use Rattle.wire.specs.Bodies.{framing_of, Body, absent, content_of, Frames, IsShortBody, PassesBody}
-use Rattle.wire.specs.Parts.{PassesBytes, PassesLines}
+use Rattle.wire.specs.Parts.{PassesHeadLimits}
 use Rattle.wire.specs.declared.fault.WireFault.{WireFault}
 use Rattle.wire.specs.declared.fault.WireFault.TheVariants.{LinkFault, BadMessage, TooLong, Memory}
 use Rattle.wire.specs.declared.framing.Framing.{Framing}
@@ -51,9 +51,7 @@ IsNoResponse bytes = (head : ResponseHead) (body : Body) → IsResponse bytes he
 
 -- more came than a limit on the head of a response allows
 abbrev pub PassesHead : ℕ → List ℕ → Type 0
-PassesHead limit bytes =
-    ((limit ≡ MAX_HEAD) × PassesBytes IsResponseHead print_response MAX_HEAD bytes)
-    ⊎ ((limit ≡ MAX_HEADERS) × PassesLines IsResponseHead print_response (λ head. length head.fields) MAX_HEADERS bytes)
+PassesHead limit bytes = PassesHeadLimits IsResponseHead print_response (λ head. length head.fields) limit bytes
 
 -- more came than a limit allows, or was stated: of the head, or of the body of a response with status 200
 abbrev pub PassesResponse : ℕ → List ℕ → Type 0

@@ -4,21 +4,22 @@ ghost use Rattle.std.specs.Prelude.{◌≡◌, ◌≤◌, [], length, OnOk};
 ghost use Rattle.httparse.specs.Ascii.{crlf_bytes};
 ghost use Rattle.httparse.specs.Grammar.{IsChunkLine, print_chunk_line};
 ghost use Rattle.wire.specs.Bodies.{AreTrailers, print_trailers, PassesLine, PassesTrailers};
-ghost use Rattle.wire.specs.Parts.{Finds, HasOne, Takes};
 ghost use Rattle.wire.specs.Sparing.{HoldsBytes, HoldsChunk, HoldsChunks, ReadsSparingly, OfRead};
 ghost use Rattle.wire.specs.Steps.{SaysSize, SaysNothing, TakesBytes, TakesText, TakesChunk, TakesChunks};
 ghost use Rattle.wire.specs.LinkTold.{told, Counts};
 
 use super::WireFault;
 use super::feed::Feed;
-use super::found::Found;
+use super::part::{Found, MessagePart, take_part};
 use httparse::spans::{EMPTY_HEADER_SPAN, parse_headers};
 use httparse::{Error, Status, parse_chunk_size};
 use limits::{MAX_BODY, MAX_CHUNK_LINE, MAX_HEAD, MAX_HEADERS};
+use std::alloc::Global;
 use tk_io::Intake;
 
 /// Takes all chunks to the body, and the line of the last one.
 pub(crate) fn take_chunks<R: Intake>(
+    alloc: Global,
     link: &mut R,
     feed: &mut Feed,
     body: &mut Vec<u8>,
@@ -30,12 +31,13 @@ pub(crate) fn take_chunks<R: Intake>(
     ensures sparing { ReadsSparingly HoldsChunks feed.old (R.pieces link.old) (R.pieces link.new) }
     ensures came { OnOk result (OfRead (λ all rest. TakesChunks all rest body.new.items result) feed.old feed.new (R.pieces link.old) (R.pieces link.new)) }
 {
-    while take_chunk(link, feed, body)? {}
+    while take_chunk(alloc, link, feed, body)? {}
     Ok(())
 }
 
 /// Takes a chunk to the end of the body, or the line of the last one, and says whether it was a chunk.
 fn take_chunk<R: Intake>(
+    alloc: Global,
     link: &mut R,
     feed: &mut Feed,
     body: &mut Vec<u8>,
@@ -47,7 +49,7 @@ fn take_chunk<R: Intake>(
     ensures sparing { ReadsSparingly HoldsChunk feed.old (R.pieces link.old) (R.pieces link.new) }
     ensures came { OnOk result (OfRead (λ all rest. TakesChunk all rest body.old.items body.new.items result) feed.old feed.new (R.pieces link.old) (R.pieces link.new)) }
 {
-    let size = take_line(link, feed)?;
+    let size = take_part::<ChunkLine, R>(alloc, link, feed)?;
     if size == 0 {
         return Ok(false);
     }
@@ -59,52 +61,48 @@ fn take_chunk<R: Intake>(
     Ok(true)
 }
 
-/// Takes the line of a chunk, and says the size that it states.
-fn take_line<R: Intake>(link: &mut R, feed: &mut Feed) -> Result<u64, WireFault>
-    ensures takes { Takes IsChunkLine print_chunk_line SaysSize PassesLine
-        (told feed.old (R.left link.old)) (told feed.new (R.left link.new)) result }
-    ensures cause { Counts (R.faults link.old) (R.faults link.new) result }
-    ensures apart { R.aside link.new ≡ R.aside link.old }
-    ensures sparing { ReadsSparingly (HasOne IsChunkLine print_chunk_line) feed.old (R.pieces link.old) (R.pieces link.new) }
-    ensures came { OnOk result (OfRead (λ all rest. Takes IsChunkLine print_chunk_line SaysSize PassesLine all rest result) feed.old feed.new (R.pieces link.old) (R.pieces link.new)) }
-{
-    loop {
-        match find_line(feed.came())? {
-            Some(found) => {
-                feed.take(found.len);
-                return Ok(found.part);
-            }
-            None => {}
-        }
-        if feed.came().len() > MAX_CHUNK_LINE as usize {
-            return Err(WireFault::TooLong {
-                limit: MAX_CHUNK_LINE,
-            });
-        }
-        if feed.fill(link)? == 0 {
-            return Err(WireFault::BadMessage);
-        }
-    }
-}
+/// The line of a chunk, as a kind of part. It says the size that it states.
+struct ChunkLine;
 
-/// Finds the line of a chunk at the front of the bytes that came.
-fn find_line(came: &[u8]) -> Result<Option<Found<u64>>, WireFault>
-    ensures { Finds IsChunkLine print_chunk_line SaysSize PassesLine came.now result }
-{
-    match parse_chunk_size(came) {
-        Ok(Status::Complete(found)) => {
-            if found.0 > MAX_CHUNK_LINE as usize {
-                return Err(WireFault::TooLong {
-                    limit: MAX_CHUNK_LINE,
-                });
+impl MessagePart for ChunkLine {
+    ghost use Rattle.limits.specs.declared.TheConstants.{MAX_CHUNK_LINE};
+    ghost use Rattle.std.specs.Prelude.{refl};
+    ghost use Rattle.httparse.specs.Grammar as grammar;
+
+    type Said = u64;
+
+    const LIMIT: u32 = MAX_CHUNK_LINE;
+
+    ghost LIMIT = { MAX_CHUNK_LINE };
+
+    ghost Tree = { grammar.ChunkLine };
+
+    ghost Valid = { IsChunkLine };
+
+    ghost print = { print_chunk_line };
+
+    ghost Says = { SaysSize };
+
+    ghost Passes = { PassesLine };
+
+    ghost beyond = { λ bytes passes. (refl, passes) };
+
+    fn find(_alloc: Global, came: &[u8]) -> Result<Option<Found<u64>>, WireFault> {
+        match parse_chunk_size(came) {
+            Ok(Status::Complete(found)) => {
+                if found.0 > MAX_CHUNK_LINE as usize {
+                    return Err(WireFault::TooLong {
+                        limit: MAX_CHUNK_LINE,
+                    });
+                }
+                Ok(Some(Found {
+                    len: found.0,
+                    part: found.1,
+                }))
             }
-            Ok(Some(Found {
-                len: found.0,
-                part: found.1,
-            }))
+            Ok(Status::Partial) => Ok(None),
+            Err(_) => Err(WireFault::BadMessage),
         }
-        Ok(Status::Partial) => Ok(None),
-        Err(_) => Err(WireFault::BadMessage),
     }
 }
 
@@ -152,50 +150,49 @@ fn take_line_end<R: Intake>(link: &mut R, feed: &mut Feed) -> Result<(), WireFau
     Ok(())
 }
 
-/// Takes the trailer lines behind the last chunk, and the empty line that ends them.
-pub(crate) fn take_trailers<R: Intake>(link: &mut R, feed: &mut Feed) -> Result<(), WireFault>
-    ensures takes { Takes AreTrailers print_trailers SaysNothing PassesTrailers
-        (told feed.old (R.left link.old)) (told feed.new (R.left link.new)) result }
-    ensures cause { Counts (R.faults link.old) (R.faults link.new) result }
-    ensures apart { R.aside link.new ≡ R.aside link.old }
-    ensures sparing { ReadsSparingly (HasOne AreTrailers print_trailers) feed.old (R.pieces link.old) (R.pieces link.new) }
-{
-    loop {
-        match find_trailers(feed.came())? {
-            Some(found) => {
-                feed.take(found.len);
-                return Ok(());
-            }
-            None => {}
-        }
-        if feed.came().len() > MAX_HEAD as usize {
-            return Err(WireFault::TooLong { limit: MAX_HEAD });
-        }
-        if feed.fill(link)? == 0 {
-            return Err(WireFault::BadMessage);
-        }
-    }
-}
+/// The trailer lines behind the last chunk, with the empty line that ends them, as a kind of part.
+pub(crate) struct Trailers;
 
-/// Finds trailer lines at the front of the bytes that came.
-fn find_trailers(came: &[u8]) -> Result<Option<Found<()>>, WireFault>
-    ensures { Finds AreTrailers print_trailers SaysNothing PassesTrailers came.now result }
-{
-    let mut lines = [EMPTY_HEADER_SPAN; MAX_HEADERS];
-    match parse_headers(came, &mut lines) {
-        Ok(Status::Complete(found)) => {
-            if found.0 > MAX_HEAD as usize {
-                return Err(WireFault::TooLong { limit: MAX_HEAD });
+impl MessagePart for Trailers {
+    ghost use Rattle.limits.specs.declared.TheConstants.{MAX_HEAD};
+    ghost use Rattle.std.proofs.Common.{inl, refl};
+    ghost use Rattle.wire.specs.Bodies as bodies;
+
+    type Said = ();
+
+    const LIMIT: u32 = MAX_HEAD;
+
+    ghost LIMIT = { MAX_HEAD };
+
+    ghost Tree = { bodies.Trailers };
+
+    ghost Valid = { AreTrailers };
+
+    ghost print = { print_trailers };
+
+    ghost Says = { SaysNothing };
+
+    ghost Passes = { PassesTrailers };
+
+    ghost beyond = { λ bytes passes. inl (refl, passes) };
+
+    fn find(_alloc: Global, came: &[u8]) -> Result<Option<Found<()>>, WireFault> {
+        let mut lines = [EMPTY_HEADER_SPAN; MAX_HEADERS];
+        match parse_headers(came, &mut lines) {
+            Ok(Status::Complete(found)) => {
+                if found.0 > MAX_HEAD as usize {
+                    return Err(WireFault::TooLong { limit: MAX_HEAD });
+                }
+                Ok(Some(Found {
+                    len: found.0,
+                    part: (),
+                }))
             }
-            Ok(Some(Found {
-                len: found.0,
-                part: (),
-            }))
+            Ok(Status::Partial) => Ok(None),
+            Err(Error::TooManyHeaders) => Err(WireFault::TooLong {
+                limit: MAX_HEADERS as u32,
+            }),
+            Err(_) => Err(WireFault::BadMessage),
         }
-        Ok(Status::Partial) => Ok(None),
-        Err(Error::TooManyHeaders) => Err(WireFault::TooLong {
-            limit: MAX_HEADERS as u32,
-        }),
-        Err(_) => Err(WireFault::BadMessage),
     }
 }

@@ -8,10 +8,10 @@
 mod chunks;
 mod fault;
 mod feed;
-mod found;
 mod framing;
 mod laws;
 mod lines;
+mod part;
 mod query;
 mod request;
 mod response;

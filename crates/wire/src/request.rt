@@ -5,20 +5,20 @@ ghost use Rattle.httparse.specs.Grammar.{IsRequestHead, print_request};
 ghost use Rattle.httparse.specs.Spans.{IsRequestWithin, IsRequestOf};
 ghost use Rattle.wire.specs.Asking.{SaysRequest};
 ghost use Rattle.wire.specs.Heads.{AnswersRequest, PassesRequest};
-ghost use Rattle.wire.specs.Parts.{Finds, Takes};
-ghost use Rattle.wire.specs.LinkTold.{told, Counts};
+ghost use Rattle.wire.specs.Parts.{Finds};
+ghost use Rattle.wire.specs.LinkTold.{Counts};
 ghost use Rattle.wire.specs.Sparing.{HoldsRequest, ReadsSparingly};
 ghost use Rattle.wire.specs.declared.fault.WireFault.TheVariants.{BadMessage};
 
 use super::WireFault;
 use super::feed::Feed;
-use super::found::Found;
 use super::lines::keeps_host_rule;
+use super::part::{Found, MessagePart, take_part};
 use httparse::spans::{EMPTY_HEADER_SPAN, HeaderSpan, RequestSpans, parse_request};
 use httparse::{Error, Status};
 use limits::{MAX_HEAD, MAX_HEADERS};
 use std::alloc::Global;
-use tk_io::{Intake, Link};
+use tk_io::Link;
 
 /// The head of a request: its method and its target, as they came.
 #[derive(Drop)]
@@ -48,7 +48,7 @@ pub fn read_request<L: Link>(alloc: Global, link: &mut L) -> Result<Head, WireFa
     ensures sparing { ReadsSparingly HoldsRequest [] (L.Intake.pieces link.old) (L.Intake.pieces link.new) }
 {
     let mut feed = Feed::new(alloc);
-    let asked = take_request(alloc, link, &mut feed);
+    let asked = take_part::<RequestHead, L>(alloc, link, &mut feed);
     drop(feed);
     match asked {
         Ok(asked) => with_host(asked),
@@ -70,43 +70,42 @@ fn with_host(asked: Asked) -> Result<Head, WireFault>
     }
 }
 
-/// Takes the head of a request.
-fn take_request<R: Intake>(alloc: Global, link: &mut R, feed: &mut Feed) -> Result<Asked, WireFault>
-    ensures takes { Takes IsRequestHead print_request SaysRequest PassesRequest
-        (told feed.old (R.left link.old)) (told feed.new (R.left link.new)) result }
-    ensures cause { Counts (R.faults link.old) (R.faults link.new) result }
-    ensures apart { R.aside link.new ≡ R.aside link.old }
-    ensures sparing { ReadsSparingly HoldsRequest feed.old (R.pieces link.old) (R.pieces link.new) }
-{
-    loop {
-        match find_request(alloc, feed.came())? {
-            Some(found) => {
-                feed.take(found.len);
-                return Ok(found.part);
-            }
-            None => {}
-        }
-        if feed.came().len() > MAX_HEAD as usize {
-            return Err(WireFault::TooLong { limit: MAX_HEAD });
-        }
-        if feed.fill(link)? == 0 {
-            return Err(WireFault::BadMessage);
-        }
-    }
-}
+/// The head of a request, as a kind of part.
+struct RequestHead;
 
-/// Finds the head of a request at the front of the bytes that came.
-fn find_request(alloc: Global, came: &[u8]) -> Result<Option<Found<Asked>>, WireFault>
-    ensures { Finds IsRequestHead print_request SaysRequest PassesRequest came.now result }
-{
-    let mut lines = [EMPTY_HEADER_SPAN; MAX_HEADERS];
-    match parse_request(came, &mut lines) {
-        Ok(Status::Complete(spans)) => request_of(alloc, came, &lines, &spans),
-        Ok(Status::Partial) => Ok(None),
-        Err(Error::TooManyHeaders) => Err(WireFault::TooLong {
-            limit: MAX_HEADERS as u32,
-        }),
-        Err(_) => Err(WireFault::BadMessage),
+impl MessagePart for RequestHead {
+    ghost use Rattle.limits.specs.declared.TheConstants.{MAX_HEAD};
+    ghost use Rattle.std.proofs.Common.{inl, refl};
+    ghost use Rattle.httparse.specs.Grammar as grammar;
+
+    type Said = Asked;
+
+    const LIMIT: u32 = MAX_HEAD;
+
+    ghost LIMIT = { MAX_HEAD };
+
+    ghost Tree = { grammar.RequestHead };
+
+    ghost Valid = { IsRequestHead };
+
+    ghost print = { print_request };
+
+    ghost Says = { SaysRequest };
+
+    ghost Passes = { PassesRequest };
+
+    ghost beyond = { λ bytes passes. inl (refl, passes) };
+
+    fn find(alloc: Global, came: &[u8]) -> Result<Option<Found<Asked>>, WireFault> {
+        let mut lines = [EMPTY_HEADER_SPAN; MAX_HEADERS];
+        match parse_request(came, &mut lines) {
+            Ok(Status::Complete(spans)) => request_of(alloc, came, &lines, &spans),
+            Ok(Status::Partial) => Ok(None),
+            Err(Error::TooManyHeaders) => Err(WireFault::TooLong {
+                limit: MAX_HEADERS as u32,
+            }),
+            Err(_) => Err(WireFault::BadMessage),
+        }
     }
 }
 

@@ -1,19 +1,19 @@
 //! Responses.
 
-ghost use Rattle.std.specs.Prelude.{◌≡◌, ◌≤◌, [], Some, IfSome, OnOk, length};
+ghost use Rattle.std.specs.Prelude.{◌≡◌, ◌≤◌, [], Some, IfSome, length};
 ghost use Rattle.httparse.specs.Grammar.{IsResponseHead, print_response};
 ghost use Rattle.httparse.specs.Spans.{IsResponseWithin, IsResponseOf};
-ghost use Rattle.wire.specs.Parts.{Finds, HasOne, Takes};
+ghost use Rattle.wire.specs.Parts.{Finds};
 ghost use Rattle.wire.specs.Responses.{is_interim, AnswersResponse, PassesHead};
-ghost use Rattle.wire.specs.Sparing.{HoldsBody, HoldsResponse, ReadsSparingly, OfRead};
+ghost use Rattle.wire.specs.Sparing.{HoldsBody, HoldsResponse, ReadsSparingly};
 ghost use Rattle.wire.specs.Steps.{SaysResponse, AnswersBody};
 ghost use Rattle.wire.specs.LinkTold.{told, Counts};
 ghost use Rattle.wire.specs.declared.framing.Framing.TheVariants.{Chunked, Length, ToEnd};
 
-use super::chunks::{take_bytes, take_chunks, take_trailers};
+use super::chunks::{Trailers, take_bytes, take_chunks};
 use super::feed::Feed;
-use super::found::Found;
 use super::framing::framing_of;
+use super::part::{Found, MessagePart, take_part};
 use super::{Framing, WireFault};
 use httparse::spans::{EMPTY_HEADER_SPAN, HeaderSpan, ResponseSpans, parse_response};
 use httparse::{Error, Status};
@@ -66,7 +66,7 @@ fn read_into<R: Intake>(alloc: Global, link: &mut R, feed: &mut Feed) -> Result<
     ensures apart { R.aside link.new ≡ R.aside link.old }
     ensures sparing { ReadsSparingly HoldsResponse feed.old (R.pieces link.old) (R.pieces link.new) }
 {
-    let start = take_start(link, feed)?;
+    let start = take_part::<ResponseHead, R>(alloc, link, feed)?;
     if is_interim(start.status) {
         return Err(WireFault::BadMessage);
     }
@@ -80,7 +80,7 @@ fn read_into<R: Intake>(alloc: Global, link: &mut R, feed: &mut Feed) -> Result<
         return Err(WireFault::BadMessage);
     };
     let mut body = Vec::new(alloc);
-    match take_body(link, feed, framing, &mut body) {
+    match take_body(alloc, link, feed, framing, &mut body) {
         Ok(()) => Ok(Reply {
             status: OK,
             body: Some(body),
@@ -101,6 +101,7 @@ fn is_interim(status: u16) -> bool
 
 /// Takes the body by its framing.
 fn take_body<R: Intake>(
+    alloc: Global,
     link: &mut R,
     feed: &mut Feed,
     framing: Framing,
@@ -113,7 +114,7 @@ fn take_body<R: Intake>(
     ensures sparing { ReadsSparingly (HoldsBody (Some framing)) feed.old (R.pieces link.old) (R.pieces link.new) }
 {
     match framing {
-        Framing::Chunked => take_chunked(link, feed, body),
+        Framing::Chunked => take_chunked(alloc, link, feed, body),
         Framing::Length(count) => take_counted(link, feed, body, count),
         Framing::ToEnd => take_rest(link, feed, body),
     }
@@ -121,6 +122,7 @@ fn take_body<R: Intake>(
 
 /// Takes a body in chunks, with the trailer lines behind it.
 fn take_chunked<R: Intake>(
+    alloc: Global,
     link: &mut R,
     feed: &mut Feed,
     body: &mut Vec<u8>,
@@ -131,8 +133,8 @@ fn take_chunked<R: Intake>(
     ensures apart { R.aside link.new ≡ R.aside link.old }
     ensures sparing { ReadsSparingly (HoldsBody (Some Chunked)) feed.old (R.pieces link.old) (R.pieces link.new) }
 {
-    take_chunks(link, feed, body)?;
-    take_trailers(link, feed)?;
+    take_chunks(alloc, link, feed, body)?;
+    take_part::<Trailers, R>(alloc, link, feed)?;
     Ok(())
 }
 
@@ -173,44 +175,42 @@ fn take_rest<R: Intake>(link: &mut R, feed: &mut Feed, body: &mut Vec<u8>) -> Re
     Err(WireFault::TooLong { limit: MAX_BODY })
 }
 
-/// Takes the head of a response.
-fn take_start<R: Intake>(link: &mut R, feed: &mut Feed) -> Result<Start, WireFault>
-    ensures takes { Takes IsResponseHead print_response SaysResponse PassesHead
-        (told feed.old (R.left link.old)) (told feed.new (R.left link.new)) result }
-    ensures cause { Counts (R.faults link.old) (R.faults link.new) result }
-    ensures apart { R.aside link.new ≡ R.aside link.old }
-    ensures sparing { ReadsSparingly (HasOne IsResponseHead print_response) feed.old (R.pieces link.old) (R.pieces link.new) }
-    ensures came { OnOk result (OfRead (λ all rest. Takes IsResponseHead print_response SaysResponse PassesHead all rest result) feed.old feed.new (R.pieces link.old) (R.pieces link.new)) }
-{
-    loop {
-        match find_start(feed.came())? {
-            Some(found) => {
-                feed.take(found.len);
-                return Ok(found.part);
-            }
-            None => {}
-        }
-        if feed.came().len() > MAX_HEAD as usize {
-            return Err(WireFault::TooLong { limit: MAX_HEAD });
-        }
-        if feed.fill(link)? == 0 {
-            return Err(WireFault::BadMessage);
-        }
-    }
-}
+/// The head of a response, as a kind of part.
+struct ResponseHead;
 
-/// Finds the head of a response at the front of the bytes that came.
-fn find_start(came: &[u8]) -> Result<Option<Found<Start>>, WireFault>
-    ensures { Finds IsResponseHead print_response SaysResponse PassesHead came.now result }
-{
-    let mut lines = [EMPTY_HEADER_SPAN; MAX_HEADERS];
-    match parse_response(came, &mut lines) {
-        Ok(Status::Complete(spans)) => start_of(came, &lines, &spans),
-        Ok(Status::Partial) => Ok(None),
-        Err(Error::TooManyHeaders) => Err(WireFault::TooLong {
-            limit: MAX_HEADERS as u32,
-        }),
-        Err(_) => Err(WireFault::BadMessage),
+impl MessagePart for ResponseHead {
+    ghost use Rattle.limits.specs.declared.TheConstants.{MAX_HEAD};
+    ghost use Rattle.std.proofs.Common.{inl, refl};
+    ghost use Rattle.httparse.specs.Grammar as grammar;
+
+    type Said = Start;
+
+    const LIMIT: u32 = MAX_HEAD;
+
+    ghost LIMIT = { MAX_HEAD };
+
+    ghost Tree = { grammar.ResponseHead };
+
+    ghost Valid = { IsResponseHead };
+
+    ghost print = { print_response };
+
+    ghost Says = { SaysResponse };
+
+    ghost Passes = { PassesHead };
+
+    ghost beyond = { λ bytes passes. inl (refl, passes) };
+
+    fn find(_alloc: Global, came: &[u8]) -> Result<Option<Found<Start>>, WireFault> {
+        let mut lines = [EMPTY_HEADER_SPAN; MAX_HEADERS];
+        match parse_response(came, &mut lines) {
+            Ok(Status::Complete(spans)) => start_of(came, &lines, &spans),
+            Ok(Status::Partial) => Ok(None),
+            Err(Error::TooManyHeaders) => Err(WireFault::TooLong {
+                limit: MAX_HEADERS as u32,
+            }),
+            Err(_) => Err(WireFault::BadMessage),
+        }
     }
 }
 

@@ -2,7 +2,7 @@ use Rattle.std.proofs.Common.{ℕ}
 use Rattle.httparse.specs.Grammar.{ChunkLine}
 use Rattle.httparse.specs.Spans.{IsChunkLineAt}
 use Rattle.wire.proofs.FindLaws.{complete_as, long_line}
-use Rattle.wire.proofs.chunks.find_line.Goals as goal
+use Rattle.wire.proofs.chunks.ChunkLineMessagePart.find.Goals as goal
 
 pub returns-then-found : goal.returns-then-found
 returns-then-found c =

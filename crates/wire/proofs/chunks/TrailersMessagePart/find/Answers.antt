@@ -1,7 +1,7 @@
 use Rattle.std.proofs.Common.{ℕ, Err, ap, refl}
 use Rattle.httparse.specs.Spans.{IsSectionOf, IsSectionWithin}
 use Rattle.wire.proofs.FindLaws.{complete_as, long_trailers, short_trailers, many_trailers}
-use Rattle.wire.proofs.chunks.find_trailers.Goals as goal
+use Rattle.wire.proofs.chunks.TrailersMessagePart.find.Goals as goal
 
 pub returns-then-found : goal.returns-then-found
 returns-then-found c =

@@ -1,6 +1,6 @@
 use Rattle.std.proofs.Common.{Err, ap, refl}
 use Rattle.wire.proofs.FindLaws.{many_request}
-use Rattle.wire.proofs.request.find_request.Goals as goal
+use Rattle.wire.proofs.request.RequestHeadMessagePart.find.Goals as goal
 
 pub returns-in-Err-TooManyHeaders : goal.returns-in-Err-TooManyHeaders
 returns-in-Err-TooManyHeaders c =

@@ -1,6 +1,6 @@
 use Rattle.std.proofs.Common.{Err, ap, refl}
 use Rattle.wire.proofs.FindLaws.{many_head}
-use Rattle.wire.proofs.response.find_start.Goals as goal
+use Rattle.wire.proofs.response.ResponseHeadMessagePart.find.Goals as goal
 
 pub returns-in-Err-TooManyHeaders : goal.returns-in-Err-TooManyHeaders
 returns-in-Err-TooManyHeaders c =
