@@ -10,7 +10,8 @@ use Rattle.wire.specs.declared.request.Head.{Head}
 use Rattle.wire.specs.Writing.{reply_text}
 use Rattle.wire.specs.declared.writing.Kind.TheVariants.{Text}
 use Rattle.tk_io.specs.Faults.{Rose}
-use Rattle.source_node.specs.Refusals.{status_of, body_of}
+use Rattle.source_node.specs.Refusals.{status_of, body_of, refusal_of, IsRefusedAs}
+use Rattle.source_node.proofs.EndLaws.{refused_quiet}
 use Rattle.source_pool.specs.declared.hold.Hold.{Hold}
 use Rattle.source_node.specs.Connections.{asks_head}
 use Rattle.source_node.specs.declared.refusal.Refusal.{Refusal}
@@ -92,15 +93,14 @@ replied view visit held faults heard answer turn reads quiet same_held same_faul
           (subst (λ n. SendsAnswer (asks_head heard) answer held visit.held_now n visit.write_faults_now turn) same_faults sends),
     )
 
--- the same where no head was heard, for a fault that is known
-pub unheard : (view : View) (visit : Visit) (held : Option (List ℕ)) (faults mid : ℕ) (fault known : WireFault) (why : Refusal) (turn : Turn) → fault ≡ known
-    → IfSome visit.came (λ bytes. AnswersRequest bytes (Err fault)) → Counts {T = Head} visit.read_faults mid (Err fault)
-    → (Counts {T = Head} visit.read_faults mid (Err known) → mid ≡ visit.read_faults) → visit.read_faults_now ≡ mid
-    → held ≡ visit.held → faults ≡ visit.write_faults → ServesHeard view (Err known) visit.before visit.now (Err why)
+-- a request that was refused, since its head wasn't read
+pub unheard : (view : View) (visit : Visit) (held : Option (List ℕ)) (faults mid : ℕ) (fault : WireFault) (why : Refusal) (turn : Turn)
+    → refusal_of fault ≡ Some why → IfSome visit.came (λ bytes. AnswersRequest bytes (Err fault)) → Counts {T = Head} visit.read_faults mid (Err fault)
+    → visit.read_faults_now ≡ mid → held ≡ visit.held → faults ≡ visit.write_faults → visit.now ≡ visit.before
     → SendsAnswer false (Err why) held visit.held_now faults visit.write_faults_now turn → Ends view visit turn
-unheard view visit held faults mid fault known why turn is reads counts quiet later same_held same_faults serves sends =
-    replied view visit held faults (Err known) (Err why) turn (subst (λ (f : WireFault). IfSome visit.came (λ bytes. AnswersRequest bytes (Err f))) is reads)
-    (later ∙ quiet (subst (λ (f : WireFault). Counts {T = Head} visit.read_faults mid (Err f)) is counts)) same_held same_faults serves sends
+unheard view visit held faults mid fault why turn is reads counts later same_held same_faults same sends =
+    replied view visit held faults (Err fault) (Err why) turn reads (later ∙ refused_quiet visit.read_faults mid fault why is counts) same_held same_faults
+    (subst (λ (o : Option Refusal). IsRefusedAs {A = LineSaid} o visit.before visit.now (Err why)) (sym is) (refl, same)) sends
 
 -- a reply that is sent, by equal figures
 pub refusal_sent : (held held_now : Option (List ℕ)) (faults faults_now status : ℕ) (body : Option (List ℕ)) (is_head : Bool) (why : Refusal) (end : ConnEnd)

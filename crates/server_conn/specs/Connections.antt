@@ -7,14 +7,13 @@ use Rattle.tk_io.specs.Whole.{TookFront}
 use Rattle.wire.specs.Heads.{AnswersRequest}
 use Rattle.wire.specs.Writing.{reply_text}
 use Rattle.wire.specs.declared.fault.WireFault.{WireFault}
-use Rattle.wire.specs.declared.fault.WireFault.TheVariants as heard
 use Rattle.wire.specs.declared.request.Head.{Head}
 use Rattle.wire.specs.declared.writing.Kind.TheVariants.{Text}
 use Rattle.source_pool.specs.declared.hold.Hold.{Hold}
 use Rattle.source_node.specs.Connections.{asks_head}
-use Rattle.source_node.specs.Refusals.{status_of, body_of}
+use Rattle.source_node.specs.Refusals.{status_of, body_of, refusal_of, IsRefusedAs}
 use Rattle.source_node.specs.declared.refusal.Refusal.{Refusal}
-use Rattle.source_node.specs.declared.refusal.Refusal.TheVariants.{TooLarge, BadRequest, NoMemory}
+use Rattle.source_node.specs.declared.refusal.Refusal.TheVariants.{NoMemory}
 use Rattle.query_admission.specs.View.{View}
 use Rattle.server_conn.specs.Asking.{routed, line_in}
 use Rattle.server_conn.specs.Becoming.{LineSaid, IsLineTold}
@@ -51,13 +50,10 @@ abbrev pub Serves : View → List ℕ → List ℕ → List Hold → List Hold �
 Serves view method target before now (Err NoMemory) = IsOk (routed method target)
 Serves view method target before now answer = TellsAsked view (line_in method target) before now answer
 
--- how what was heard is answered: a head, or bytes that are none or pass a limit, or for which no memory was left
+-- how what was heard is answered: a head, or what kept it from being read, which is refused without a look
 abbrev pub ServesHeard : View → Result Head WireFault → List Hold → List Hold → Result LineSaid Refusal → Type 0
 ServesHeard view (Ok head) before now answer = Serves view head.method.items head.target.items before now answer
-ServesHeard view (Err heard.BadMessage) before now answer = (answer ≡ Err BadRequest) × (now ≡ before)
-ServesHeard view (Err (heard.TooLong limit)) before now answer = (answer ≡ Err TooLarge) × (now ≡ before)
-ServesHeard view (Err heard.Memory) before now answer = (answer ≡ Err NoMemory) × (now ≡ before)
-ServesHeard view (Err heard.LinkFault) before now answer = ⊥
+ServesHeard view (Err fault) before now answer = IsRefusedAs (refusal_of fault) before now answer
 
 -- the status of an answer
 abbrev pub status_in : Result LineSaid Refusal → ℕ

@@ -13,12 +13,12 @@ use super::answers::Answers;
 use super::asked::line_asked;
 use super::line::tell_line;
 use super::opened::Opened;
-use source_node::Refusal;
+use source_node::{Refusal, refusal_of};
 use source_pool::{Pool, PoolPass};
 use std::alloc::Global;
 use std::sync::Wait;
 use tk_io::Link;
-use wire::{Head, Kind, WireFault, read_request, write_reply};
+use wire::{Head, Kind, read_request, write_reply};
 
 /// How a connection ended.
 #[derive(Clone, Copy, PartialEq, Eq)]
@@ -86,13 +86,13 @@ pub fn serve_conn<L: Link>(
             drop(head);
             turn
         }
-        Err(WireFault::LinkFault) => Turn {
-            end: ConnEnd::LinkFault,
-            moved: false,
+        Err(fault) => match refusal_of(fault) {
+            Some(why) => refuse(link, why, false),
+            None => Turn {
+                end: ConnEnd::LinkFault,
+                moved: false,
+            },
         },
-        Err(WireFault::BadMessage) => refuse(link, Refusal::BadRequest, false),
-        Err(WireFault::TooLong { .. }) => refuse(link, Refusal::TooLarge, false),
-        Err(WireFault::Memory) => refuse(link, Refusal::NoMemory, false),
     }
 }
 

@@ -3,10 +3,12 @@ use Rattle.std.proofs.Common.{◌≡◌, ℕ, Bool, true, false, cond, ap, inl, 
 use Rattle.std.specs.Result.{IsOk}
 use Rattle.std.specs.Str.{bytes_eq}
 use Rattle.wire.specs.Heads.{AnswersRequest}
+use Rattle.tk_io.specs.Faults.{Rose}
 use Rattle.wire.specs.declared.fault.WireFault.{WireFault}
+use Rattle.wire.specs.declared.fault.WireFault.TheVariants as heard
 use Rattle.wire.specs.declared.request.Head.{Head}
 use Rattle.wire.specs.LinkTold.{Counts as Counted}
-use Rattle.source_node.specs.Refusals.{status_of, body_of}
+use Rattle.source_node.specs.Refusals.{status_of, body_of, refusal_of, IsRefusedAs}
 use Rattle.source_api.specs.declared.counts.Counts.{Counts}
 use Rattle.source_api.specs.declared.source.Trouble.{Trouble}
 use Rattle.source_api.specs.declared.source.FailKind.TheVariants as kind
@@ -144,16 +146,28 @@ replied name version visit held faults heard answer end reads quiet same_held sa
     (subst (λ (h : Option (List ℕ)). Sends h visit.held_now visit.write_faults visit.write_faults_now (status_in answer) (reply_of (asks_head heard) answer) end) same_held
     (subst (λ n. Sends held visit.held_now n visit.write_faults_now (status_in answer) (reply_of (asks_head heard) answer) end) same_faults sends))
 
--- the same where no head was heard, for a fault that is known
-pub unheard : (name : List ℕ) (version : Option ℕ) (visit : Visit) (held : Option (List ℕ)) (faults mid : ℕ) (fault known : WireFault) (why : Refusal) (end : ConnEnd) → fault ≡ known
-    → IfSome visit.came (λ bytes. AnswersRequest bytes (Err fault)) → Counted {T = Head} visit.read_faults mid (Err fault)
-    → (Counted {T = Head} visit.read_faults mid (Err known) → mid ≡ visit.read_faults) → visit.read_faults_now ≡ mid
-    → held ≡ visit.held → faults ≡ visit.write_faults → ServesHeard name version (Err known) visit.source visit.source_now (Err why)
+-- a request whose head wasn't read is refused where no read failed, and else one failed
+pub refused_quiet : (before mid : ℕ) (fault : WireFault) (why : Refusal) → refusal_of fault ≡ Some why → Counted {T = Head} before mid (Err fault) → mid ≡ before
+refused_quiet before mid heard.LinkFault why is counts = absurd cc
+refused_quiet before mid heard.BadMessage why is counts = counts
+refused_quiet before mid (heard.TooLong limit) why is counts = counts
+refused_quiet before mid heard.Memory why is counts = counts
+
+pub unrefused_rose : (before mid : ℕ) (fault : WireFault) → refusal_of fault ≡ None → Counted {T = Head} before mid (Err fault) → Rose before mid
+unrefused_rose before mid heard.LinkFault is counts = counts
+unrefused_rose before mid heard.BadMessage is counts = absurd cc
+unrefused_rose before mid (heard.TooLong limit) is counts = absurd cc
+unrefused_rose before mid heard.Memory is counts = absurd cc
+
+-- a request that was refused, since its head wasn't read
+pub unheard : (name : List ℕ) (version : Option ℕ) (visit : Visit) (held : Option (List ℕ)) (faults mid : ℕ) (fault : WireFault) (why : Refusal) (end : ConnEnd)
+    → refusal_of fault ≡ Some why → IfSome visit.came (λ bytes. AnswersRequest bytes (Err fault)) → Counted {T = Head} visit.read_faults mid (Err fault)
+    → visit.read_faults_now ≡ mid → held ≡ visit.held → faults ≡ visit.write_faults → visit.source_now ≡ visit.source
     → Sends held visit.held_now faults visit.write_faults_now (status_of why) (reply_text (status_of why) Text (body_of false why)) end
     → Ends name version visit end
-unheard name version visit held faults mid fault known why end is reads counts quiet later same_held same_faults serves sends =
-    replied name version visit held faults (Err known) (Err why) end (subst (λ (f : WireFault). IfSome visit.came (λ bytes. AnswersRequest bytes (Err f))) is reads)
-    (later ∙ quiet (subst (λ (f : WireFault). Counted {T = Head} visit.read_faults mid (Err f)) is counts)) same_held same_faults serves sends
+unheard name version visit held faults mid fault why end is reads counts later same_held same_faults same sends =
+    replied name version visit held faults (Err fault) (Err why) end reads (later ∙ refused_quiet visit.read_faults mid fault why is counts) same_held same_faults
+    (subst (λ (o : Option Refusal). IsRefusedAs {A = List ℕ} o visit.source visit.source_now (Err why)) (sym is) (refl, same)) sends
 
 -- a reply with an answer that is sent, by an equal body
 pub answer_sent : (held held_now : Option (List ℕ)) (faults faults_now : ℕ) (body text : List ℕ) (end : ConnEnd) → body ≡ text

@@ -8,14 +8,13 @@ use Rattle.tk_io.specs.Whole.{TookFront}
 use Rattle.wire.specs.Heads.{AnswersRequest}
 use Rattle.wire.specs.Writing.{reply_text}
 use Rattle.wire.specs.declared.fault.WireFault.{WireFault}
-use Rattle.wire.specs.declared.fault.WireFault.TheVariants.{BadMessage, TooLong, Memory}
 use Rattle.wire.specs.declared.request.Head.{Head}
 use Rattle.wire.specs.declared.writing.Kind.TheVariants.{Text, Json}
 use Rattle.source_api.specs.declared.counts.Counts.{Counts}
 use Rattle.source_api.specs.declared.source.Trouble.{Trouble}
 use Rattle.source_api.specs.declared.source.FailKind.TheVariants as kind
 use Rattle.source_api.specs.declared.source.Trouble.TheVariants.{Fail}
-use Rattle.source_node.specs.Refusals.{status_of, body_of}
+use Rattle.source_node.specs.Refusals.{status_of, body_of, refusal_of, IsRefusedAs}
 use Rattle.source_node.specs.Asking.{routed, asked_of, HasCount}
 use Rattle.source_node.specs.Serving.{Seen, Answers, Fails, IsQuiet, text_of}
 use Rattle.source_node.specs.declared.asked.Asked.{Asked}
@@ -23,7 +22,7 @@ use Rattle.source_node.specs.declared.answer.Answer.{Answer}
 use Rattle.source_node.specs.declared.node.ConnEnd.{ConnEnd}
 use Rattle.source_node.specs.declared.node.ConnEnd.TheVariants.{Replied, LinkFault}
 use Rattle.source_node.specs.declared.refusal.Refusal.{Refusal}
-use Rattle.source_node.specs.declared.refusal.Refusal.TheVariants.{TooLarge, BadRequest, SourceFailed, NoMemory}
+use Rattle.source_node.specs.declared.refusal.Refusal.TheVariants.{SourceFailed, NoMemory}
 
 -- what stands before and after a connection: the bytes that the link had to give and those that it took, where it tells them, its
 -- counts of faults, and the source
@@ -81,13 +80,10 @@ abbrev pub Serves : List ℕ → Option ℕ → List ℕ → List ℕ → Seen �
 Serves name version method target before now (Err NoMemory) = IsOk (routed name method target) × StarvesAt (asked_of name method target) before now
 Serves name version method target before now answer = ServesAsked version (asked_of name method target) before now answer
 
--- how what was heard is served: a head, or bytes that are none or pass a limit, or for which no memory was left
+-- how what was heard is served: a head, or what kept it from being read, which is refused without asking the source
 abbrev pub ServesHeard : List ℕ → Option ℕ → Result Head WireFault → Seen → Seen → Result (List ℕ) Refusal → Type 0
 ServesHeard name version (Ok head) before now answer = Serves name version head.method.items head.target.items before now answer
-ServesHeard name version (Err BadMessage) before now answer = (answer ≡ Err BadRequest) × (now ≡ before)
-ServesHeard name version (Err (TooLong limit)) before now answer = (answer ≡ Err TooLarge) × (now ≡ before)
-ServesHeard name version (Err Memory) before now answer = (answer ≡ Err NoMemory) × (now ≡ before)
-ServesHeard name version (Err _) before now answer = ⊥
+ServesHeard name version (Err fault) before now answer = IsRefusedAs (refusal_of fault) before now answer
 
 -- whether the method is HEAD; where no head was read it isn't
 abbrev pub asks_head : Result Head WireFault → Bool

@@ -1,6 +1,8 @@
 -- The statuses of refusals, and the bodies of their replies.
-use Rattle.std.specs.Prelude.{ℕ, Bool, List, [], ◌∷◌, ◌++◌, if◌then◌else◌, Option, Some, None}
+use Rattle.std.specs.Prelude.{◌≡◌, ℕ, Bool, List, [], ◌∷◌, ◌++◌, if◌then◌else◌, Option, Some, None, Result, Err}
 use Rattle.wire.specs.Writing.{reason_of}
+use Rattle.wire.specs.declared.fault.WireFault.{WireFault}
+use Rattle.wire.specs.declared.fault.WireFault.TheVariants as heard
 use Rattle.source_node.specs.declared.refusal.Refusal.{Refusal}
 use Rattle.source_node.specs.declared.refusal.Refusal.TheVariants.{TooLarge, BadRequest, NotFound, MethodNotAllowed, SourceFailed, NoMemory}
 
@@ -16,3 +18,15 @@ status_of NoMemory = 503
 -- the body of a refusal: the reason and LF, and none in a reply to the method HEAD
 abbrev pub body_of : Bool → Refusal → Option (List ℕ)
 body_of is_head why = if is_head then None else Some (reason_of (status_of why) ++ 10 ∷ [])
+
+-- why a request is refused whose head wasn't read: the bytes are none, or pass a limit, or no memory was left. One whose link failed isn't refused
+abbrev pub refusal_of : WireFault → Option Refusal
+refusal_of heard.LinkFault = None
+refusal_of heard.BadMessage = Some BadRequest
+refusal_of (heard.TooLong limit) = Some TooLarge
+refusal_of heard.Memory = Some NoMemory
+
+-- a request is refused so, and what would answer it stays as it was
+abbrev pub IsRefusedAs : {A S : Type 0} → Option Refusal → S → S → Result A Refusal → Type 0
+IsRefusedAs None before now answer = ⊥
+IsRefusedAs (Some why) before now answer = (answer ≡ Err why) × (now ≡ before)

@@ -15,5 +15,5 @@ pub use answer::Answer;
 pub use asked::{Asked, asked_of};
 pub use laws::{a_body_says_its_answer, an_answer_is_read};
 pub use node::{ConnEnd, node_conn};
-pub use refusal::Refusal;
+pub use refusal::{Refusal, refusal_of};
 pub use serving::{Served, serve_links};

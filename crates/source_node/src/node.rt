@@ -13,11 +13,11 @@ ghost use Rattle.source_node.specs.Serving.{seen};
 ghost use Rattle.source_node.specs.Connections.{Ends, Serves, Serving, Sends, IsRepliedTo};
 
 use super::answer::{ask, write_answer};
-use super::{Asked, Refusal, asked_of};
+use super::{Asked, Refusal, asked_of, refusal_of};
 use source_api::{FailKind, Source, Trouble};
 use std::alloc::Global;
 use tk_io::Link;
-use wire::{Head, Kind, WireFault, read_request, write_reply};
+use wire::{Head, Kind, read_request, write_reply};
 
 /// How a connection ended.
 #[derive(Clone, Copy, Debug, PartialEq, Eq)]
@@ -74,10 +74,10 @@ pub fn node_conn<S: Source, L: Link>(
             drop(head);
             end
         }
-        Err(WireFault::LinkFault) => ConnEnd::LinkFault,
-        Err(WireFault::BadMessage) => refuse(link, Refusal::BadRequest, false),
-        Err(WireFault::TooLong { .. }) => refuse(link, Refusal::TooLarge, false),
-        Err(WireFault::Memory) => refuse(link, Refusal::NoMemory, false),
+        Err(fault) => match refusal_of(fault) {
+            Some(why) => refuse(link, why, false),
+            None => ConnEnd::LinkFault,
+        },
     }
 }
 

@@ -2,7 +2,9 @@
 
 ghost use Rattle.std.specs.Prelude.{◌≡◌, ◌∷◌, ◌++◌, [], true, option_copied};
 ghost use Rattle.wire.specs.Writing.{has_reason, reason_of};
-ghost use Rattle.source_node.specs.Refusals.{status_of, body_of};
+ghost use Rattle.source_node.specs.Refusals.{status_of, body_of, refusal_of};
+
+use wire::WireFault;
 
 /// Why a request gets another reply than the answer of a list, and its status.
 #[derive(Clone, Copy, Debug, PartialEq, Eq)]
@@ -57,5 +59,17 @@ impl Refusal {
             Refusal::SourceFailed => b"Internal Server Error\n",
             Refusal::NoMemory => b"Service Unavailable\n",
         }
+    }
+}
+
+/// Why a request is refused whose head wasn't read. Where its link failed it isn't refused: no reply can be written.
+pub fn refusal_of(fault: WireFault) -> Option<Refusal>
+    ensures { result ≡ refusal_of fault }
+{
+    match fault {
+        WireFault::LinkFault => None,
+        WireFault::BadMessage => Some(Refusal::BadRequest),
+        WireFault::TooLong { .. } => Some(Refusal::TooLarge),
+        WireFault::Memory => Some(Refusal::NoMemory),
     }
 }

@@ -1,14 +1,8 @@
-use Rattle.std.proofs.Common.{[], Ok, Err, refl, subst, ◌∙◌}
-use Rattle.wire.specs.Sparing.{HoldsRequest}
-use Rattle.wire.proofs.SparingLaws.{sparing_kept}
-use Rattle.wire.specs.LinkTold.{Counts}
-use Rattle.wire.specs.declared.request.Head.{Head}
-use Rattle.wire.specs.declared.fault.WireFault.{WireFault}
-use Rattle.wire.specs.declared.fault.WireFault.TheVariants as heard
-use Rattle.source_node.specs.declared.refusal.Refusal.TheVariants.{TooLarge, BadRequest, NoMemory}
+use Rattle.std.proofs.Common.{Ok, refl, sym, ◌∙◌}
 use Rattle.server_conn.specs.Entries.{view_in}
 use Rattle.server_conn.specs.Connections.{Visit}
 use Rattle.query_run.proofs.KnowsLaws.{knows_same}
+use Rattle.source_node.proofs.EndLaws.{unrefused_rose}
 use Rattle.server_conn.proofs.EndLaws.{replied, unheard, unread}
 use Rattle.server_conn.proofs.conn.serve_conn.Goals as goal
 
@@ -30,11 +24,11 @@ returns-in-Ok-clause-ends g c =
     c.answer_head-turn.result c.in-Ok.ensures.answers (c.answer_head-turn.ensures.incoming.1 ∙ c.in-Ok.ensures.cause) c.read_request.ensures.outgoing.0
     c.read_request.ensures.outgoing.1 r.1 r.2
 
-pub returns-in-Err-BadMessage-clause-knows : goal.returns-in-Err-BadMessage-clause-knows
-returns-in-Err-BadMessage-clause-knows g c = knows_same c.args.pass.now
+pub returns-in-Some-clause-knows : goal.returns-in-Some-clause-knows
+returns-in-Some-clause-knows g c = knows_same c.args.pass.now
 
-pub returns-in-Err-BadMessage-clause-ends : goal.returns-in-Err-BadMessage-clause-ends
-returns-in-Err-BadMessage-clause-ends g c =
+pub returns-in-Some-clause-ends : goal.returns-in-Some-clause-ends
+returns-in-Some-clause-ends g c =
     let visit : Visit = record {
       came = g.L.Intake.left c.args.link.now;
       held = g.L.Sink.held c.args.link.now;
@@ -47,57 +41,15 @@ returns-in-Err-BadMessage-clause-ends g c =
       now = c.args.pass.now;
     } in
     unheard (view_in c.args.catalog.now) visit (g.L.Sink.held c.read_request.new.link) (g.L.Sink.faults c.read_request.new.link)
-    (g.L.Intake.faults c.read_request.new.link) c.in-Err-BadMessage.field-0 heard.BadMessage BadRequest c.refuse.result c.in-Err-BadMessage.field-0-is c.in-Err-BadMessage.ensures.answers
-    c.in-Err-BadMessage.ensures.cause (λ same. same) c.refuse.ensures.incoming.1 c.read_request.ensures.outgoing.0 c.read_request.ensures.outgoing.1 (refl, refl)
+    (g.L.Intake.faults c.read_request.new.link) c.in-Err.fault c.in-Some.why c.refuse.result (sym c.refusal_of.ensures ∙ c.in-Some.is)
+    c.in-Err.ensures.answers c.in-Err.ensures.cause c.refuse.ensures.incoming.1 c.read_request.ensures.outgoing.0 c.read_request.ensures.outgoing.1 refl
     c.refuse.ensures.sends
 
-pub returns-in-Err-TooLong-clause-knows : goal.returns-in-Err-TooLong-clause-knows
-returns-in-Err-TooLong-clause-knows g c = knows_same c.args.pass.now
+pub returns-in-None-clause-knows : goal.returns-in-None-clause-knows
+returns-in-None-clause-knows g c = knows_same c.args.pass.now
 
-pub returns-in-Err-TooLong-clause-ends : goal.returns-in-Err-TooLong-clause-ends
-returns-in-Err-TooLong-clause-ends g c =
-    let visit : Visit = record {
-      came = g.L.Intake.left c.args.link.now;
-      held = g.L.Sink.held c.args.link.now;
-      held_now = g.L.Sink.held c.refuse-in-Err-TooLong.new.link;
-      read_faults = g.L.Intake.faults c.args.link.now;
-      read_faults_now = g.L.Intake.faults c.refuse-in-Err-TooLong.new.link;
-      write_faults = g.L.Sink.faults c.args.link.now;
-      write_faults_now = g.L.Sink.faults c.refuse-in-Err-TooLong.new.link;
-      before = c.args.pass.now;
-      now = c.args.pass.now;
-    } in
-    unheard (view_in c.args.catalog.now) visit (g.L.Sink.held c.read_request.new.link) (g.L.Sink.faults c.read_request.new.link)
-    (g.L.Intake.faults c.read_request.new.link) c.in-Err-TooLong.field-0 (heard.TooLong _) TooLarge c.refuse-in-Err-TooLong.result c.in-Err-TooLong.field-0-is c.in-Err-TooLong.ensures.answers
-    c.in-Err-TooLong.ensures.cause (λ same. same) c.refuse-in-Err-TooLong.ensures.incoming.1 c.read_request.ensures.outgoing.0 c.read_request.ensures.outgoing.1 (refl, refl)
-    c.refuse-in-Err-TooLong.ensures.sends
-
-pub returns-in-Err-Memory-clause-knows : goal.returns-in-Err-Memory-clause-knows
-returns-in-Err-Memory-clause-knows g c = knows_same c.args.pass.now
-
-pub returns-in-Err-Memory-clause-ends : goal.returns-in-Err-Memory-clause-ends
-returns-in-Err-Memory-clause-ends g c =
-    let visit : Visit = record {
-      came = g.L.Intake.left c.args.link.now;
-      held = g.L.Sink.held c.args.link.now;
-      held_now = g.L.Sink.held c.refuse-in-Err-Memory.new.link;
-      read_faults = g.L.Intake.faults c.args.link.now;
-      read_faults_now = g.L.Intake.faults c.refuse-in-Err-Memory.new.link;
-      write_faults = g.L.Sink.faults c.args.link.now;
-      write_faults_now = g.L.Sink.faults c.refuse-in-Err-Memory.new.link;
-      before = c.args.pass.now;
-      now = c.args.pass.now;
-    } in
-    unheard (view_in c.args.catalog.now) visit (g.L.Sink.held c.read_request.new.link) (g.L.Sink.faults c.read_request.new.link)
-    (g.L.Intake.faults c.read_request.new.link) c.in-Err-Memory.field-0 heard.Memory NoMemory c.refuse-in-Err-Memory.result c.in-Err-Memory.field-0-is c.in-Err-Memory.ensures.answers
-    c.in-Err-Memory.ensures.cause (λ same. same) c.refuse-in-Err-Memory.ensures.incoming.1 c.read_request.ensures.outgoing.0 c.read_request.ensures.outgoing.1 (refl, refl)
-    c.refuse-in-Err-Memory.ensures.sends
-
-pub returns-in-Err-LinkFault-clause-knows : goal.returns-in-Err-LinkFault-clause-knows
-returns-in-Err-LinkFault-clause-knows g c = knows_same c.args.pass.now
-
-pub returns-in-Err-LinkFault-clause-ends : goal.returns-in-Err-LinkFault-clause-ends
-returns-in-Err-LinkFault-clause-ends g c =
+pub returns-in-None-clause-ends : goal.returns-in-None-clause-ends
+returns-in-None-clause-ends g c =
     let visit : Visit = record {
       came = g.L.Intake.left c.args.link.now;
       held = g.L.Sink.held c.args.link.now;
@@ -110,25 +62,5 @@ returns-in-Err-LinkFault-clause-ends g c =
       now = c.args.pass.now;
     } in
     unread (view_in c.args.catalog.now) visit _ refl
-    (subst (λ (f : WireFault). Counts {T = Head} visit.read_faults visit.read_faults_now (Err f)) c.in-Err-LinkFault.field-0-is c.in-Err-LinkFault.ensures.cause)
+    (unrefused_rose visit.read_faults visit.read_faults_now c.in-Err.fault (sym c.refusal_of.ensures ∙ c.in-None.is) c.in-Err.ensures.cause)
     c.read_request.ensures.outgoing.0 c.read_request.ensures.outgoing.1 refl
-
-pub returns-in-Ok-clause-sparing : goal.returns-in-Ok-clause-sparing
-returns-in-Ok-clause-sparing g c =
-    sparing_kept HoldsRequest [] (g.L.Intake.pieces c.args.link.now) (g.L.Intake.pieces c.read_request.new.link) (g.L.Intake.pieces c.answer_head-turn.new.link)
-    c.read_request.ensures.sparing c.answer_head-turn.ensures.incoming.2
-
-pub returns-in-Err-BadMessage-clause-sparing : goal.returns-in-Err-BadMessage-clause-sparing
-returns-in-Err-BadMessage-clause-sparing g c =
-    sparing_kept HoldsRequest [] (g.L.Intake.pieces c.args.link.now) (g.L.Intake.pieces c.read_request.new.link) (g.L.Intake.pieces c.refuse.new.link)
-    c.read_request.ensures.sparing c.refuse.ensures.incoming.2
-
-pub returns-in-Err-TooLong-clause-sparing : goal.returns-in-Err-TooLong-clause-sparing
-returns-in-Err-TooLong-clause-sparing g c =
-    sparing_kept HoldsRequest [] (g.L.Intake.pieces c.args.link.now) (g.L.Intake.pieces c.read_request.new.link) (g.L.Intake.pieces c.refuse-in-Err-TooLong.new.link)
-    c.read_request.ensures.sparing c.refuse-in-Err-TooLong.ensures.incoming.2
-
-pub returns-in-Err-Memory-clause-sparing : goal.returns-in-Err-Memory-clause-sparing
-returns-in-Err-Memory-clause-sparing g c =
-    sparing_kept HoldsRequest [] (g.L.Intake.pieces c.args.link.now) (g.L.Intake.pieces c.read_request.new.link) (g.L.Intake.pieces c.refuse-in-Err-Memory.new.link)
-    c.read_request.ensures.sparing c.refuse-in-Err-Memory.ensures.incoming.2
