@@ -15,7 +15,7 @@ use Rattle.server_conn.specs.declared.opened.OpenedEntry.{OpenedEntry}
 use Rattle.server_conn.specs.declared.opened.OpenedEntry.TheVariants.{Opened, NotOpened, TooLarge}
 use Rattle.source_api.proofs.CountLaws.{none_fell_same}
 use Rattle.query_server.specs.Homes.{home_at, entry_at, AreAtHome, AreHomes, IsAtHome}
-use Rattle.query_server.specs.Reopening.{AsksOne, AsksSome, HasAnswer, HasCause, IsAsStated, IsAsked, IsAtHand, IsByItsSize, Reopens, ReopensAll, ReopensAt}
+use Rattle.query_server.specs.Reopening.{AsksOne, AsksSome, HasAnswer, HasCauseInCounts, IsAsStated, IsAsked, IsAtHand, IsByItsSize, Reopens, ReopensAll, ReopensAt}
 use Rattle.query_server.specs.Serving.{KeepsSources, KeepsVersions}
 
 -- a list by the size that its source answered
@@ -24,7 +24,7 @@ has_answer size at_hand (Opened count source version) is = ap Ok (sym is.0)
 has_answer size at_hand NotOpened is = absurd is
 has_answer size at_hand (TooLarge count) is = ap Ok (sym is)
 
-quiet_so : (before now : Counts) (size at_hand : ℕ) (entry : OpenedEntry) → IsByItsSize size at_hand entry → now ≡ before → HasCause before now entry
+quiet_so : (before now : Counts) (size at_hand : ℕ) (entry : OpenedEntry) → IsByItsSize size at_hand entry → now ≡ before → HasCauseInCounts before now entry
 quiet_so before now size at_hand (Opened count source version) is quiet = quiet
 quiet_so before now size at_hand NotOpened is quiet = absurd is
 quiet_so before now size at_hand (TooLarge count) is quiet = quiet

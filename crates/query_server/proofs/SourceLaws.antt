@@ -1,22 +1,43 @@
 -- What is left of the sources.
-use Rattle.std.proofs.Common.{◌<◌, ℕ, Option, List, length, slice_index_or, sym, ap, subst, ◌∙◌, arith}
+use Rattle.std.proofs.Common.{◌≡◌, ◌<◌, ℕ, Option, None, List, All, length, map, slice_index_or, refl, sym, ap, subst, ◌∙◌, arith}
 use Rattle.ranked_list.specs.declared.row.Row.{Row}
 use Rattle.source_api.specs.declared.counts.Counts.{Counts}
 use Rattle.source_api.specs.Counting.{NoneFell}
-use Rattle.source_api.proofs.CountLaws.{none_fell_on}
+use Rattle.source_api.proofs.CountLaws.{none_fell_on, none_fell_same}
 use Rattle.atomic_table.specs.Seated.{TableId}
 use Rattle.limits.specs.declared.settings.Settings.{Settings}
 use Rattle.fetcher.specs.declared.slot.Slot.{Slot}
 use Rattle.source_pool.specs.Passes.{Feed}
 use Rattle.batch_run.specs.Slots.{SlotState, AllFetch, AreLent, AreTakenBack}
-use Rattle.query_server.specs.Serving.{KeepsSources, KeepsVersions}
+use Rattle.server_conn.specs.Entries.{Openings}
+use Rattle.query_server.specs.Homes.{AreAtHome, home_of}
+use Rattle.query_server.specs.Serving.{KeepsSources, KeepsVersions, Leaves}
+use Rattle.query_server.proofs.HomeLaws.{all_at_home}
 
 module _ {S : Type 0} (list : S → Option (List Row)) (counts : S → Counts) where
+  pub keeps_same : (slots : List (Slot S)) → KeepsSources list counts slots slots
+  keeps_same slots = record { size = refl; lists = λ i d l. refl; later = λ i d l. none_fell_same (counts (slice_index_or slots i d).source) }
+
   pub keeps_on : (before mid after : List (Slot S)) → KeepsSources list counts before mid → KeepsSources list counts mid after → KeepsSources list counts before after
   keeps_on before mid after first then_ = record {
     size = then_.size ∙ first.size;
     lists = λ i d l. then_.lists i d (let e = first.size in omega (arith, l, e)) ∙ first.lists i d l;
     later = λ i d l. none_fell_on _ _ _ (first.later i d l) (then_.later i d (let e = first.size in omega (arith, l, e)));
+  }
+
+  -- where nothing was done
+  pub leaves_same : (slots : List (Slot S)) (o : Openings) → All (λ slot. slot.feeder ≡ None) slots → Leaves list counts (map home_of o.entries) slots slots o o
+  leaves_same slots o empty = record { kept = keeps_same slots; empty = empty; catalog = refl; home = all_at_home o.entries }
+
+  -- where sources were called after what was done, and lists became others
+  pub leaves_on : (homes : List (Option ℕ)) (before mid after : List (Slot S)) (o then_ now : Openings) → Leaves list counts homes before mid o then_
+      → KeepsSources list counts mid after → All (λ slot. slot.feeder ≡ None) after → now.catalog ≡ then_.catalog → AreAtHome homes now.entries
+      → Leaves list counts homes before after o now
+  leaves_on homes before mid after o then_ now left kept empty catalog home = record {
+    kept = keeps_on before mid after left.kept kept;
+    empty = empty;
+    catalog = catalog ∙ left.catalog;
+    home = home;
   }
 
   -- what the fetchers did between the lending of the feeders and their return

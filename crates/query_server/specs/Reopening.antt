@@ -24,10 +24,10 @@ HasAnswer answer NotOpened = (why : Trouble) × (answer ≡ Err why)
 HasAnswer answer (TooLarge count) = answer ≡ Ok count
 
 -- a list isn't open only where its source failed or gave garbled data: that count rose, or stands at its last value; else nothing was counted
-abbrev pub HasCause : Counts → Counts → OpenedEntry → Type 0
-HasCause before now (Opened count source version) = now ≡ before
-HasCause before now NotOpened = Rose before.faults now.faults ⊎ Rose before.garbles now.garbles
-HasCause before now (TooLarge count) = now ≡ before
+abbrev pub HasCauseInCounts : Counts → Counts → OpenedEntry → Type 0
+HasCauseInCounts before now (Opened count source version) = now ≡ before
+HasCauseInCounts before now NotOpened = Rose before.faults now.faults ⊎ Rose before.garbles now.garbles
+HasCauseInCounts before now (TooLarge count) = now ≡ before
 
 -- an open list has the version that its source has at hand, and one whose size is known has as many objects as its source tells rows
 abbrev pub IsAsStated : Option (List Row) → ℕ → OpenedEntry → Type 0
@@ -69,7 +69,7 @@ module _ {S : Type 0} (list : S → Option (List Row)) (counts : S → Counts) (
   pub record Reopens (before after : S) (entry : OpenedEntry) : Type 0 where
     pub asked : IsAsked list counts calls before after
     pub answer : HasAnswer asked.answer entry
-    pub cause : HasCause (counts before) (counts after) entry
+    pub cause : HasCauseInCounts (counts before) (counts after) entry
     pub stated : IsAsStated (list after) (at_hand after) entry
 
   -- this became of a list whose source has this number, as it answered; a list without a source stays as it was

@@ -1,10 +1,12 @@
 -- How a server ends, and what it leaves of the sources.
-use Rattle.std.specs.Prelude.{◌≡◌, ◌<◌, ℕ, ⊤, List, Option, length, slice_index_or}
+use Rattle.std.specs.Prelude.{◌≡◌, ◌<◌, ℕ, ⊤, List, Option, None, All, length, slice_index_or}
 use Rattle.ranked_list.specs.declared.row.Row.{Row}
 use Rattle.source_api.specs.declared.counts.Counts.{Counts}
 use Rattle.source_api.specs.Counting.{NoneFell}
 use Rattle.fetcher.specs.declared.slot.Slot.{Slot}
 use Rattle.tk_io.specs.Calls.{PortCall}
+use Rattle.server_conn.specs.Entries.{Openings}
+use Rattle.query_server.specs.Homes.{AreAtHome}
 use Rattle.query_server.specs.Accepting.{TookAll, TookSome, GaveAll, GaveBeforeFault, AsksFor}
 use Rattle.query_server.specs.declared.accepting.Accepted.{Accepted}
 use Rattle.query_server.specs.declared.server.Served.{Served}
@@ -19,6 +21,13 @@ pub record KeepsSources {S : Type 0} (list : S → Option (List Row)) (counts : 
 -- the sources have the versions at hand that they had
 pub record KeepsVersions {S : Type 0} (at_hand : S → ℕ) (before after : List (Slot S)) : Type 0 where
   pub each : (i : ℕ) (d : Slot S) → i < length before → at_hand (slice_index_or after i d).source ≡ at_hand (slice_index_or before i d).source
+
+-- what a server leaves: the sources, none of which is being fetched, and over the same catalog lists of which each open one has the source that it had at first
+pub record Leaves {S : Type 0} (list : S → Option (List Row)) (counts : S → Counts) (homes : List (Option ℕ)) (before after : List (Slot S)) (o now : Openings) : Type 0 where
+  pub kept : KeepsSources list counts before after
+  pub empty : All (λ slot. slot.feeder ≡ None) after
+  pub catalog : now.catalog ≡ o.catalog
+  pub home : AreAtHome homes now.entries
 
 -- how serving at most so many links of a port ends; want of memory is free
 abbrev pub ServesLinks : ℕ → Option (List (List ℕ)) → Option (List (List ℕ)) → ℕ → ℕ → Served → Type 0

@@ -5,7 +5,7 @@ ghost use Rattle.limits.specs.Ranges.{AreSettings};
 ghost use Rattle.batch_run.specs.Crews.{IsNewCrew};
 ghost use Rattle.query_server.specs.Homes.{AreHomes, AreAtHome, HaveHomes, IsCounted, home_of};
 ghost use Rattle.query_server.specs.Reopening.{AsksSome, IsAtHand, ReopensAll};
-ghost use Rattle.query_server.specs.Serving.{KeepsSources, KeepsVersions};
+ghost use Rattle.query_server.specs.Serving.{KeepsSources, KeepsVersions, Leaves};
 
 use super::counting::counts_of;
 use super::homes::homes_of;
@@ -125,10 +125,7 @@ fn serve_generations<W: Threads + Wait + Sync, S: Source, L: Link + Send + Drop>
     requires many { length homes.now ≡ length catalog.old.entries }
     requires at_hand { All (IsAtHand S.at_hand slots.old) catalog.old.entries }
     requires empty { All (λ slot. slot.feeder ≡ None) slots.old }
-    ensures kept { KeepsSources S.list S.counts slots.old slots.new }
-    ensures empty { All (λ slot. slot.feeder ≡ None) slots.new }
-    ensures catalog { catalog.new.catalog ≡ catalog.old.catalog }
-    ensures home { AreAtHome homes.now catalog.new.entries }
+    ensures left { Leaves S.list S.counts homes.now slots.old slots.new catalog.old catalog.new }
     ensures at_hand { OnOk result (All (IsAtHand S.at_hand slots.new) catalog.new.entries) }
 {
     for _ in rt.forever() {
@@ -160,10 +157,7 @@ pub(crate) fn serve_side<W: Threads + Wait + Sync, S: Source, L: Link + Send + D
     requires homes { AreHomes (length slots.old) (map home_of catalog.old.entries) }
     requires at_hand { All (IsAtHand S.at_hand slots.old) catalog.old.entries }
     requires empty { All (λ slot. slot.feeder ≡ None) slots.old }
-    ensures kept { KeepsSources S.list S.counts slots.old slots.new }
-    ensures empty { All (λ slot. slot.feeder ≡ None) slots.new }
-    ensures catalog { catalog.new.catalog ≡ catalog.old.catalog }
-    ensures home { AreAtHome (map home_of catalog.old.entries) catalog.new.entries }
+    ensures left { Leaves S.list S.counts (map home_of catalog.old.entries) slots.old slots.new catalog.old catalog.new }
     ensures at_hand { result ≡ false → All (IsAtHand S.at_hand slots.new) catalog.new.entries }
 {
     let Ok(homes) = homes_of(alloc, catalog.entries()) else {

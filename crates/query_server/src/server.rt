@@ -2,9 +2,9 @@
 
 ghost use Rattle.std.specs.Prelude.{◌≡◌, ◌≢◌, ◌<◌, ◌^◌, None, All, length, map};
 ghost use Rattle.limits.specs.Ranges.{AreSettings};
-ghost use Rattle.query_server.specs.Homes.{AreHomes, AreAtHome, home_of};
+ghost use Rattle.query_server.specs.Homes.{AreHomes, home_of};
 ghost use Rattle.query_server.specs.Reopening.{IsAtHand};
-ghost use Rattle.query_server.specs.Serving.{AsksForLinks, KeepsSources, ServesLinks};
+ghost use Rattle.query_server.specs.Serving.{AsksForLinks, Leaves, ServesLinks};
 
 use super::accepting::{Accepted, accept_all};
 use super::generation::serve_side;
@@ -74,10 +74,7 @@ pub fn serve_all<W: Threads + Wait + Sync, S: Source, P: Port>(
     ensures serves { ServesLinks conns (P.links port.old) (P.links port.new) (P.faults port.old) (P.faults port.new) result }
     ensures closed { P.closed port.new ≡ P.closed port.old }
     ensures calls { AsksForLinks conns (P.calls port.old) (P.calls port.new) result }
-    ensures kept { KeepsSources S.list S.counts sources.old sources.new }
-    ensures empty { All (λ slot. slot.feeder ≡ None) sources.new }
-    ensures catalog { catalog.new.catalog ≡ catalog.old.catalog }
-    ensures home { AreAtHome (map home_of catalog.old.entries) catalog.new.entries }
+    ensures left { Leaves S.list S.counts (map home_of catalog.old.entries) sources.old sources.new catalog.old catalog.new }
     ensures at_hand { result ≢ Served.Memory → All (IsAtHand S.at_hand sources.new) catalog.new.entries }
 {
     let Ok(queue) = LinkQueue::make(alloc, settings.workers) else {

@@ -1,26 +1,47 @@
-use Rattle.std.proofs.Common.{◌∙◌}
+use Rattle.std.proofs.Common.{refl, ◌∙◌}
 use Rattle.query_server.proofs.ReopenLaws.{hand_reopened, keeps_asked}
-use Rattle.query_server.proofs.SourceLaws.{keeps_on}
+use Rattle.query_server.proofs.SourceLaws.{keeps_on, keeps_same, leaves_on}
 use Rattle.query_server.proofs.generation.serve_generations.Goals as goal
+
+pub loop-init : goal.loop-init
+loop-init g c = record {
+  left = record { kept = keeps_same g.S.Source.list g.S.Source.counts c.args.slots.now; empty = c.requires.empty; catalog = refl; home = c.requires.home };
+  at_hand = c.requires.at_hand;
+  many = refl;
+}
+
+pub returns-in_default-clause-left : goal.returns-in_default-clause-left
+returns-in_default-clause-left g c =
+    leaves_on g.S.Source.list g.S.Source.counts c.args.homes.now c.args.slots.now c.loop.slots c.serve_generation.new.slots c.args.catalog.now c.loop.catalog c.loop.catalog
+    c.loop.invariant.left c.serve_generation.ensures.kept c.serve_generation.ensures.empty refl c.loop.invariant.left.home
+
+pub returns-in_default-reopen-clause-left : goal.returns-in_default-reopen-clause-left
+returns-in_default-reopen-clause-left g c =
+    leaves_on g.S.Source.list g.S.Source.counts c.args.homes.now c.args.slots.now c.loop.slots c.reopen.new.slots c.args.catalog.now c.loop.catalog c.reopen.new.catalog
+    c.loop.invariant.left
+    (keeps_on g.S.Source.list g.S.Source.counts c.loop.slots c.serve_generation.new.slots c.reopen.new.slots c.serve_generation.ensures.kept
+    (keeps_asked g.S.Source.list g.S.Source.counts g.S.Source.calls c.args.homes.now c.serve_generation.new.slots c.reopen.new.slots c.reopen.ensures.asks))
+    c.reopen.ensures.empty c.reopen.ensures.catalog c.reopen.ensures.home
+
+pub returns-then-not-has_more-clause-left : goal.returns-then-not-has_more-clause-left
+returns-then-not-has_more-clause-left g c =
+    leaves_on g.S.Source.list g.S.Source.counts c.args.homes.now c.args.slots.now c.loop.slots c.serve_generation.new.slots c.args.catalog.now c.loop.catalog c.loop.catalog
+    c.loop.invariant.left c.serve_generation.ensures.kept c.serve_generation.ensures.empty refl c.loop.invariant.left.home
 
 pub loop-preserved : goal.loop-preserved
 loop-preserved g c =
     let before = c.loop.invariant in
     let again = c.in-Ok-reopen.ensures in
     record {
-      kept = keeps_on g.S.Source.list g.S.Source.counts c.args.slots.now c.loop.slots c.reopen.new.slots before.kept
+      left = leaves_on g.S.Source.list g.S.Source.counts c.args.homes.now c.args.slots.now c.loop.slots c.reopen.new.slots c.args.catalog.now c.loop.catalog c.reopen.new.catalog
+          before.left
           (keeps_on g.S.Source.list g.S.Source.counts c.loop.slots c.serve_generation.new.slots c.reopen.new.slots c.serve_generation.ensures.kept
-          (keeps_asked g.S.Source.list g.S.Source.counts g.S.Source.calls c.args.homes.now c.serve_generation.new.slots c.reopen.new.slots again.asks));
-      empty = again.empty;
-      catalog = again.catalog ∙ before.catalog;
+          (keeps_asked g.S.Source.list g.S.Source.counts g.S.Source.calls c.args.homes.now c.serve_generation.new.slots c.reopen.new.slots again.asks))
+          again.empty again.catalog again.home;
       at_hand = hand_reopened g.S.Source.list g.S.Source.counts g.S.Source.calls g.S.Source.at_hand c.args.homes.now c.loop.catalog.entries c.reopen.new.catalog.entries
           c.serve_generation.new.slots c.reopen.new.slots again.home again.reopens;
-      home = again.home;
       many = again.many ∙ before.many;
     }
 
-pub returns-in_default-reopen-clause-kept : goal.returns-in_default-reopen-clause-kept
-returns-in_default-reopen-clause-kept g c =
-    keeps_on g.S.Source.list g.S.Source.counts c.args.slots.now c.loop.slots c.reopen.new.slots c.loop.invariant.kept
-    (keeps_on g.S.Source.list g.S.Source.counts c.loop.slots c.serve_generation.new.slots c.reopen.new.slots c.serve_generation.ensures.kept
-    (keeps_asked g.S.Source.list g.S.Source.counts g.S.Source.calls c.args.homes.now c.serve_generation.new.slots c.reopen.new.slots c.reopen.ensures.asks))
+pub returns-clause-left : goal.returns-clause-left
+returns-clause-left g c = c.loop.invariant.left
