@@ -14,7 +14,7 @@ use std::alloc::Global;
 use std::sync::Wait;
 use std::thread::{Threads, join_mut};
 use test_mem_source::MemSource;
-use test_query_support::{Expected, Pair, fetch_till_set, has_ended_so};
+use test_query_support::{Expected, Pair, fetch_both_till_set, has_ended_so};
 
 /// The query's side: it runs the query, tells whether it ended as it is to, and sets the sign.
 fn ask(
@@ -31,45 +31,6 @@ fn ask(
 {
     *so = has_ended_so(run_query(rt, alloc, pool, pass, ready), expected);
     stop.set(pool);
-}
-
-/// A source's side: it is fetched a row a page until the sign is set.
-fn fetch(
-    rt: &impl Wait,
-    alloc: Global,
-    pool: &Pool,
-    feeder: &mut Feeder,
-    source: &mut MemSource,
-    stop: &Stop,
-)
-    requires { IsIdleOf pool.now feeder.old }
-{
-    fetch_till_set(rt, alloc, pool, feeder, source, stop);
-}
-
-/// Both sources' sides.
-fn fetch_both<R: Threads + Wait + Sync>(
-    rt: &R,
-    alloc: Global,
-    pool: &Pool,
-    first: &mut Feeder,
-    second: &mut Feeder,
-    sources: &mut (MemSource, MemSource),
-    stop: &Stop,
-)
-    requires first { IsIdleOf pool.now first.old }
-    requires second { IsIdleOf pool.now second.old }
-{
-    let (one, other) = sources;
-    join_mut(
-        rt,
-        &mut ||
-            requires { IsIdleOf pool.now first.now }
-        { fetch(rt, alloc, pool, first, one, stop) },
-        &mut ||
-            requires { IsIdleOf pool.now second.now }
-        { fetch(rt, alloc, pool, second, other, stop) },
-    );
 }
 
 /// All sides: whether the query ended as it is to.
@@ -96,7 +57,7 @@ fn run_all<R: Threads + Wait + Sync>(
         rt,
         &mut ||
             requires { (IsIdleOf pool.now first.now) × IsIdleOf pool.now second.now }
-        { fetch_both(rt, alloc, pool, first, second, sources, sign) },
+        { fetch_both_till_set(rt, alloc, pool, first, second, sources, sign) },
         &mut ||
             requires { MayRun pool.now pass.now ready.now }
         { ask(rt, alloc, pool, pass, ready, expected, found, sign) },

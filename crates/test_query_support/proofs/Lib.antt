@@ -1,4 +1,4 @@
 pub mod Readiness
-mod Pairing
+pub mod Pairing
 -- Lemmas on queries of tests.
 pub mod Readable

@@ -1,4 +1,4 @@
-//! A fetcher beside those that look.
+//! Fetchers beside those that look.
 
 ghost use Rattle.source_pool.specs.Passes.{IsIdleOf};
 
@@ -7,6 +7,8 @@ use source_api::Source;
 use source_pool::{Feeder, Pool};
 use std::alloc::Global;
 use std::sync::Wait;
+use std::thread::{Threads, join_mut};
+use test_mem_source::MemSource;
 
 /// Takes turns, with a row a page, until the sign is set, and tells how many rows the source gave. Where nothing is to be fetched it sleeps until
 /// something is wanted or the sign is set.
@@ -34,4 +36,43 @@ pub fn fetch_till_set<S: Source>(
         }
     }
     unreachable!()
+}
+
+/// A source's side: it is fetched a row a page until the sign is set.
+fn fetch(
+    rt: &impl Wait,
+    alloc: Global,
+    pool: &Pool,
+    feeder: &mut Feeder,
+    source: &mut MemSource,
+    stop: &Stop,
+)
+    requires { IsIdleOf pool.now feeder.old }
+{
+    fetch_till_set(rt, alloc, pool, feeder, source, stop);
+}
+
+/// Fetches from two sources, each in a thread of its own, until the sign is set.
+pub fn fetch_both_till_set<R: Threads + Wait + Sync>(
+    rt: &R,
+    alloc: Global,
+    pool: &Pool,
+    first: &mut Feeder,
+    second: &mut Feeder,
+    sources: &mut (MemSource, MemSource),
+    stop: &Stop,
+)
+    requires first { IsIdleOf pool.now first.old }
+    requires second { IsIdleOf pool.now second.old }
+{
+    let (one, other) = sources;
+    join_mut(
+        rt,
+        &mut ||
+            requires { IsIdleOf pool.now first.now }
+        { fetch(rt, alloc, pool, first, one, stop) },
+        &mut ||
+            requires { IsIdleOf pool.now second.now }
+        { fetch(rt, alloc, pool, second, other, stop) },
+    );
 }

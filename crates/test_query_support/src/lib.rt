@@ -11,7 +11,7 @@ mod pair;
 mod readies;
 mod three;
 
-pub use beside::fetch_till_set;
+pub use beside::{fetch_both_till_set, fetch_till_set};
 pub use desk::{Desk, Step, first_wrong, only};
 pub use outcomes::{Asked, Expected, Figures, has_ended_so, is_ended_so, let_endings_go};
 pub use pair::Pair;

@@ -1,9 +1,7 @@
--- Lines may be answered over the pool of two sources that was opened, whose feeders have no turn.
-use Rattle.std.proofs.Common.{◌≡◌, ◌<◌, ◌∷◌, [], ℕ, List, All, length, sym, subst, ap, arith}
+-- Lines may be answered over the pool of two sources that was opened.
+use Rattle.std.proofs.Common.{◌≡◌, ◌∷◌, [], List, All, length, sym, subst, ap, arith}
 use Rattle.std.proofs.lemmas.List.Elements.{All-from_recursion}
-use Rattle.atomic_table.specs.Seated.{TableId}
 use Rattle.source_pool.specs.declared.hold.Hold.{Hold}
-use Rattle.source_pool.specs.Passes.{Feed, lock_at, feed_at, IsIdleOf, AreFeedersOf}
 use Rattle.query_run.specs.Advancing.{IsSourceIn}
 use Rattle.query_run.proofs.Opening.{opened_rests}
 use Rattle.catalog_text.specs.Catalog.{Listed as Entry}
@@ -38,23 +36,3 @@ may_answer o pair four is = record {
   sources = subst (All (IsThere pair.pass)) (sym four)
       (All-from_recursion (IsThere pair.pass) four_entries (first_there pair is, (second_there pair is, (tt, (tt, tt)))));
 }
-
-one_idle : (pool : List TableId) (feeds : List Feed) (source : ℕ) (feed : Feed) → AreFeedersOf pool feeds → source < length pool → feed ≡ feed_at feeds source
-    → IsIdleOf pool feed
-one_idle pool feeds source feed are within its =
-    let free = are.each source within in
-    let is = are.sources source within in
-    subst (IsIdleOf pool) (sym its)
-    (record {
-      of = record {
-        source = subst (λ s. s < length pool) (sym is) within;
-        own = subst (λ s. (feed_at feeds source).pass.0 ≡ lock_at pool s) (sym is) free.own;
-      };
-      rests = free.rests;
-    })
-
-pub first_idle : (pair : Pair) → IsPair 3 pair → IsIdleOf pair.pool pair.first
-first_idle pair is = one_idle pair.pool is.feeds 0 pair.first is.opened.feeders (let size = is.opened.size in omega (arith, size)) is.first
-
-pub second_idle : (pair : Pair) → IsPair 3 pair → IsIdleOf pair.pool pair.second
-second_idle pair is = one_idle pair.pool is.feeds 1 pair.second is.opened.feeders (let size = is.opened.size in omega (arith, size)) is.second

@@ -12,7 +12,7 @@ use std::sync::Wait;
 use std::thread::{Threads, join_mut};
 use test_mem_source::visits::{CLOSE, Parts, joined, link_of, status_in};
 use test_mem_source::{Held, Kind, MemSource, source_of};
-use test_query_support::{Pair, fetch_till_set};
+use test_query_support::{Pair, fetch_both_till_set};
 use tk_io::MemLink;
 
 /// Two lists of three objects.
@@ -73,45 +73,6 @@ fn answer(
     stop.set(pool);
 }
 
-/// A source's side: it is fetched a row a page until the sign is set.
-fn fetch(
-    rt: &impl Wait,
-    alloc: Global,
-    pool: &Pool,
-    feeder: &mut Feeder,
-    source: &mut MemSource,
-    stop: &Stop,
-)
-    requires { IsIdleOf pool.now feeder.old }
-{
-    fetch_till_set(rt, alloc, pool, feeder, source, stop);
-}
-
-/// Both sources' sides.
-fn fetch_both<R: Threads + Wait + Sync>(
-    rt: &R,
-    alloc: Global,
-    pool: &Pool,
-    first: &mut Feeder,
-    second: &mut Feeder,
-    sources: &mut (MemSource, MemSource),
-    stop: &Stop,
-)
-    requires first { IsIdleOf pool.now first.old }
-    requires second { IsIdleOf pool.now second.old }
-{
-    let (one, other) = sources;
-    join_mut(
-        rt,
-        &mut ||
-            requires { IsIdleOf pool.now first.now }
-        { fetch(rt, alloc, pool, first, one, stop) },
-        &mut ||
-            requires { IsIdleOf pool.now second.now }
-        { fetch(rt, alloc, pool, second, other, stop) },
-    );
-}
-
 /// All sides.
 fn run_all<R: Threads + Wait + Sync>(
     rt: &R,
@@ -136,7 +97,7 @@ fn run_all<R: Threads + Wait + Sync>(
         rt,
         &mut ||
             requires { (IsIdleOf pool.now first.now) × IsIdleOf pool.now second.now }
-        { fetch_both(rt, alloc, pool, first, second, sources, sign) },
+        { fetch_both_till_set(rt, alloc, pool, first, second, sources, sign) },
         &mut ||
             requires { MayAnswer lists.now pool.now pass.now }
         { answer(rt, alloc, lists, pool, pass, link, found, sign) },

@@ -1,4 +1,5 @@
-use Rattle.test_pool.proofs.Readying.{may_run, first_idle, second_idle}
+use Rattle.test_query_support.proofs.Pairing.{first_idle, second_idle}
+use Rattle.test_pool.proofs.Readying.{may_run}
 use Rattle.test_pool.proofs.query_sides.opened_may_run.Goals as goal
 
 pub returns-clause-may : goal.returns-clause-may
