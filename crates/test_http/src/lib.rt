@@ -1,4 +1,4 @@
-//! Tests of HTTP messages, and of the links in memory that bring them, by the public calls.
+//! Tests of streams, of links in memory, and of the HTTP messages that these bring, by the public calls.
 //!
 //! Messages come whole and byte by byte.
 #![tactic(auto)]
@@ -19,6 +19,8 @@ mod long_heads;
 mod requests;
 #[cfg(test)]
 mod responses;
+#[cfg(test)]
+mod streams;
 #[cfg(test)]
 mod writing;
 

@@ -36,8 +36,6 @@ mod rows_in_order;
 #[cfg(test)]
 mod small_types;
 #[cfg(test)]
-mod streams;
-#[cfg(test)]
 mod tables;
 #[cfg(test)]
 mod values;
