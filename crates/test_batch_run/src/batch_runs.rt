@@ -34,18 +34,14 @@ pub enum Ran {
 }
 
 /// Adds a slot of a source. None without memory.
-fn add_slot(alloc: Global, held: &Held, slots: &mut Vec<Slot<MemSource>>) -> Option<()>
+pub(crate) fn add_slot<S: Source>(source: S, slots: &mut Vec<Slot<S>>) -> Option<()>
     requires { All (λ slot. slot.feeder ≡ None) slots.old.items }
     ensures { OnSome result (All (λ slot. slot.feeder ≡ None) slots.new.items) }
 {
     let Ok(()) = slots.reserve(1) else {
         return None;
     };
-    let Some(source) = source_of(alloc, held) else {
-        return None;
-    };
-    let slot = Slot::make(source);
-    slots.push_reserved(slot);
+    slots.push_reserved(Slot::make(source));
     Some(())
 }
 
@@ -59,7 +55,7 @@ pub(crate) fn add_slots(
     ensures { OnSome result (All (λ slot. slot.feeder ≡ None) slots.new.items) }
 {
     for one in held {
-        add_slot(alloc, one, slots)?;
+        add_slot(source_of(alloc, one)?, slots)?;
     }
     Some(())
 }

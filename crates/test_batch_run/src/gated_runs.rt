@@ -2,7 +2,7 @@
 
 ghost use Rattle.std.specs.Prelude.{◌≡◌, None, All, OnSome};
 
-use super::batch_runs::{Batching, Ran, Used, run_ends_so};
+use super::batch_runs::{Batching, Ran, Used, add_slot, run_ends_so};
 use super::waiting::{Call, Far, Gate, Gated, Made, PATIENCE};
 use batch_run::Settings;
 use fetcher::Slot;
@@ -50,29 +50,6 @@ fn no_calls() -> [AtomicU64; 4] {
     ]
 }
 
-/// Adds a slot of a source that waits, with its number. None without memory.
-fn add_slot<'a>(
-    alloc: Global,
-    waiter: &Waiter,
-    far: Option<Far>,
-    made: Made<'a>,
-    number: usize,
-    slots: &mut Vec<Slot<Gated<'a>>>,
-) -> Option<()>
-    requires { All (λ slot. slot.feeder ≡ None) slots.old.items }
-    ensures { OnSome result (All (λ slot. slot.feeder ≡ None) slots.new.items) }
-{
-    let Ok(()) = slots.reserve(1) else {
-        return None;
-    };
-    let Some(rows) = source_of(alloc, &waiter.0) else {
-        return None;
-    };
-    let slot = Slot::make(Gated::make(rows, made, number, waiter.1, far));
-    slots.push_reserved(slot);
-    Some(())
-}
-
 /// Adds a slot of each source. Their calls are counted in `made`, by their numbers. None without memory.
 fn add_slots<'a>(
     alloc: Global,
@@ -85,8 +62,9 @@ fn add_slots<'a>(
     ensures { OnSome result (All (λ slot. slot.feeder ≡ None) slots.new.items) }
 {
     for (number, waiter) in waiters.iter().enumerate() {
+        let rows = source_of(alloc, &waiter.0)?;
         let beside = far.get(number).copied();
-        add_slot(alloc, waiter, beside, made, number, slots)?;
+        add_slot(Gated::make(rows, made, number, waiter.1, beside), slots)?;
     }
     Some(())
 }
