@@ -98,3 +98,15 @@ pub const MAX_LINK_SECONDS: u64 = 300;
 
 /// How many seconds a connection may take to come about.
 pub const MAX_CONNECT_SECONDS: u64 = 10;
+
+/// How many milliseconds a port waits that can't take a connection for now, before it tries again.
+pub const PORT_PAUSE_MILLIS: u64 = 20;
+
+/// How many seconds a connection that is let go is still read, so that what was written to it arrives.
+pub const MAX_LINGER_SECONDS: u64 = 10;
+
+/// How many seconds each of these reads waits for a byte.
+pub const MAX_LINGER_WAIT_SECONDS: u64 = 2;
+
+/// How many bytes these reads take at most, to the piece.
+pub const MAX_LINGER: usize = 16_777_216;

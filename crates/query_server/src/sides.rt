@@ -21,7 +21,7 @@ use std::thread;
 use std::thread::Threads;
 use tk_io::Link;
 
-/// Serves a link, and drops it once its connection has ended. Where a source had moved no more links are taken in this generation.
+/// Serves a link, and lets it go once its connection has ended. Where a source had moved no more links are taken in this generation.
 fn serve_link<L: Link + Send + Drop>(
     rt: &impl Wait,
     alloc: Global,
@@ -41,7 +41,7 @@ fn serve_link<L: Link + Send + Drop>(
     if turn.moved {
         queue.pause(rt);
     }
-    drop(link);
+    link.close();
 }
 
 /// A worker serves links, one after another, until there are none to take. Meanwhile it remembers its last answers.

@@ -1,9 +1,12 @@
 //! Streams of bytes whose failures are counted: what a program reads from and writes to.
 #![tactic(auto)]
 
+mod accepting;
+mod answered;
 mod copies;
 mod dial;
 mod intake;
+mod letting_go;
 mod link;
 mod mem_dial;
 mod mem_intake;

@@ -2,6 +2,7 @@
 
 ghost use Rattle.std.specs.Prelude.{◌≡◌, IfSome};
 
+use super::answered::Answered;
 use super::{Dial, Failed, NetLink};
 use limits::MAX_CONNECT_SECONDS;
 use std::marker::Model;
@@ -13,6 +14,7 @@ use std::time::{Clock, Duration};
 pub struct NetDial<R: Net<Stream = TcpStream> + Copy + Drop, C: Clock + Copy + Drop> {
     net: R,
     clock: C,
+    answered: Option<Answered>,
     faults: u64,
 }
 
@@ -32,8 +34,29 @@ impl<R: Net<Stream = TcpStream> + Copy + Drop, C: Clock + Copy + Drop> NetDial<R
         NetDial {
             net,
             clock,
+            answered: None,
             faults: 0,
         }
+    }
+
+    /// A connection to the address at which this host answered last, and else to the first of its addresses that
+    /// answers in time. Only then is the host looked up.
+    fn connect(&mut self, host: &str, port: u16) -> Option<NetLink<C>>
+        ensures fresh { IfSome result (λ link. link ≡ record { read_faults = 0; write_faults = 0 }) }
+        ensures faults { self.new ≡ self.old }
+    {
+        let known = self
+            .answered
+            .as_ref()
+            .and_then(|it| it.address_of(host, port));
+        if let Some(address) = known {
+            if let Some(link) = connect_to(&self.net, self.clock, address) {
+                return Some(link);
+            }
+        }
+        let (address, link) = connect_anew(&self.net, self.clock, host, port, known)?;
+        self.answered = Answered::make(host, port, address);
+        Some(link)
     }
 }
 
@@ -50,9 +73,10 @@ impl<R: Net<Stream = TcpStream> + Copy + Drop, C: Clock + Copy + Drop> Dial for 
 
     ghost may_close = { λ _. ⊤ };
 
-    /// Connects to the first of the host's addresses that answers in time.
+    /// Connects to the address at which the host answered last, and else to the first of its addresses that answers in
+    /// time.
     fn dial(&mut self, host: &str, port: u16) -> Result<NetLink<C>, Failed> {
-        match connect(&self.net, self.clock, host, port) {
+        match self.connect(host, port) {
             Some(link) => Ok(link),
             None => {
                 self.faults = self.faults.saturating_add(1);
@@ -73,18 +97,21 @@ impl<R: Net<Stream = TcpStream> + Copy + Drop, C: Clock + Copy + Drop> Dial for 
     }
 }
 
-/// A connection to the first of the host's addresses that answers in time.
-fn connect<R: Net<Stream = TcpStream>, C: Clock + Copy + Drop>(
+/// The first of the host's addresses, but for one that was tried, that answers in time, and a connection to it.
+fn connect_anew<R: Net<Stream = TcpStream>, C: Clock + Copy + Drop>(
     net: &R,
     clock: C,
     host: &str,
     port: u16,
-) -> Option<NetLink<C>>
-    ensures { IfSome result (λ link. link ≡ record { read_faults = 0; write_faults = 0 }) }
+    tried: Option<SocketAddr>,
+) -> Option<(SocketAddr, NetLink<C>)>
+    ensures { IfSome result (λ found. found.1 ≡ record { read_faults = 0; write_faults = 0 }) }
 {
     for address in (host, port).to_socket_addrs(net).ok()? {
-        if let Some(link) = connect_to(net, clock, address) {
-            return Some(link);
+        if Some(address) != tried {
+            if let Some(link) = connect_to(net, clock, address) {
+                return Some((address, link));
+            }
         }
     }
     None

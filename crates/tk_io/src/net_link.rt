@@ -2,11 +2,12 @@
 
 ghost use Rattle.std.specs.Prelude.{◌≡◌, IfSome};
 
+use super::letting_go::read_away;
 use super::std_intake::read_once;
 use super::std_sink::write_once;
 use super::time_limit::TimeLimit;
 use super::{Failed, Intake, Link, Sink};
-use limits::MAX_WAIT_SECONDS;
+use limits::{MAX_LINK_SECONDS, MAX_WAIT_SECONDS};
 use std::marker::Model;
 use std::net::TcpStream;
 use std::time::{Clock, Duration};
@@ -44,11 +45,19 @@ impl<C: Clock + Drop> NetLink<C> {
         Some(NetLink {
             stream,
             clock,
-            reads: TimeLimit::make(),
-            writes: TimeLimit::make(),
+            reads: TimeLimit::make(MAX_LINK_SECONDS),
+            writes: TimeLimit::make(MAX_LINK_SECONDS),
             read_faults: 0,
             write_faults: 0,
         })
+    }
+
+    /// Says that nothing more is written, and reads away what still comes, for a bounded time and size. Where a call
+    /// of it failed it is closed at once.
+    pub(crate) fn let_go(mut self) {
+        if self.read_faults == 0 && self.write_faults == 0 {
+            read_away(&mut self.stream, &self.clock);
+        }
     }
 
     /// How many of its reads failed.
@@ -120,6 +129,10 @@ impl<C: Clock + Drop> Sink for NetLink<C> {
 
 impl<C: Clock + Drop> Link for NetLink<C> {
     ghost use Rattle.std.specs.Prelude.{refl};
+
+    fn close(self) {
+        self.let_go();
+    }
 
     ghost reads_apart = { λ _. refl };
 

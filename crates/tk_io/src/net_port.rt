@@ -1,11 +1,12 @@
 //! A listener as a port.
 
-ghost use Rattle.std.specs.Prelude.{◌≡◌, IfOk, IfSome, IsSome};
+ghost use Rattle.std.specs.Prelude.{◌≡◌};
 
+use super::accepting::accept_next;
 use super::{Failed, NetLink, Port};
-use std::io::ErrorKind;
+use std::io;
 use std::marker::Model;
-use std::net::{IpAddr, Net, SocketAddr, TcpListener, TcpStream};
+use std::net::{IpAddr, Ipv4Addr, Ipv6Addr, Net, SocketAddr, TcpListener, TcpStream};
 use std::time::Clock;
 
 /// What listens to the outside at one address. It tells no links, and never ends. Contracts see it as its
@@ -37,8 +38,8 @@ impl<
     R: Net<Listener = TcpListener, Stream = TcpStream> + Copy + Send + Drop,
     C: Clock + Copy + Send + Drop,
 > NetPort<R, C> {
-    /// A port of this address that doesn't listen yet, and of which no call failed. This clock tells how
-    /// long its connections take.
+    /// A port of this address that doesn't listen yet, and of which no call failed. Every address of IPv6 means
+    /// those of IPv4 too. This clock tells how long its connections take.
     pub fn make(net: R, clock: C, address: IpAddr) -> NetPort<R, C>
         ensures { result ≡ 0 }
     {
@@ -79,7 +80,7 @@ impl<
     /// Listens at the port of this number in place of the one before. That the system refuses it is a
     /// fault.
     fn listen(&mut self, number: u16) -> Result<(), Failed> {
-        match TcpListener::bind(&self.net, SocketAddr::new(self.address, number)) {
+        match bind_at(&self.net, self.address, number) {
             Ok(listener) => {
                 self.listener = Some(listener);
                 Ok(())
@@ -93,49 +94,37 @@ impl<
 
     /// Waits for a connection. That it doesn't listen is a fault.
     fn accept(&mut self) -> Result<Option<NetLink<C>>, Failed> {
-        let accepted = accept_once(&self.listener, self.clock);
+        let accepted = accept_next(&self.listener, self.clock);
         if accepted.is_err() {
             self.faults = self.faults.saturating_add(1);
         }
         accepted
     }
 
-    /// Closes the connection.
+    /// Lets the connection go.
     fn hang_up(&mut self, link: NetLink<C>) {
-        drop(link);
+        link.let_go();
     }
 }
 
-/// The next connection. One that broke off before it was accepted, or that takes no limit on how long it
-/// waits, is passed over. It fails where nobody listens.
-fn accept_once<C: Clock + Copy + Drop>(
-    listener: &Option<TcpListener>,
-    clock: C,
-) -> Result<Option<NetLink<C>>, Failed>
-    ensures fresh { IfOk result (λ given. IfSome given (λ link. link ≡ record { read_faults = 0; write_faults = 0 })) }
-    ensures given { IfOk result (λ given. IsSome given) }
-{
-    let Some(listener) = listener else {
-        return Err(Failed);
+/// A listener at the port of this number. At every address means those of IPv6 and of IPv4, by one listener; where
+/// the system has no IPv6, or keeps the two apart, it means those of IPv4.
+fn bind_at<R: Net<Listener = TcpListener, Stream = TcpStream>>(
+    net: &R,
+    address: IpAddr,
+    number: u16,
+) -> io::Result<TcpListener> {
+    let asked = TcpListener::bind(net, SocketAddr::new(address, number));
+    if address != IpAddr::V6(Ipv6Addr::UNSPECIFIED) {
+        return asked;
+    }
+    let every = IpAddr::V4(Ipv4Addr::UNSPECIFIED);
+    let Ok(both) = asked else {
+        return TcpListener::bind(net, SocketAddr::new(every, number));
     };
-    for _ in 0..u64::MAX {
-        match listener.accept() {
-            Ok((stream, _)) => {
-                if let Some(link) = NetLink::make(stream, clock) {
-                    return Ok(Some(link));
-                }
-            }
-            Err(error) => {
-                if !is_passed_over(error.kind()) {
-                    break;
-                }
-            }
-        }
+    let number = both.local_addr()?.port();
+    match TcpListener::bind(net, SocketAddr::new(every, number)) {
+        Ok(apart) => Ok(apart),
+        Err(_) => Ok(both),
     }
-    Err(Failed)
-}
-
-/// Whether a listener that met this error goes on.
-fn is_passed_over(kind: ErrorKind) -> bool {
-    kind == ErrorKind::Interrupted || kind == ErrorKind::ConnectionAborted
 }

@@ -7,7 +7,7 @@ mod place_shelf;
 mod place_source;
 
 use place_shelf::PlaceShelf;
-use std::net::{IpAddr, Ipv4Addr};
+use std::net::{IpAddr, Ipv6Addr};
 use std::process::ExitCode;
 use tk_io::{NetPort, StdIntake, StdSink};
 use topk_top::run_process;
@@ -17,7 +17,7 @@ fn main(rt: HostRuntime) -> ExitCode {
     let mut shelf = PlaceShelf::make(rt.alloc(), &rt, &rt);
     let mut input = StdIntake::make(rt.stdin());
     let mut out = StdSink::make(rt.stdout());
-    let mut port = NetPort::make(rt, rt, IpAddr::V4(Ipv4Addr::UNSPECIFIED));
+    let mut port = NetPort::make(rt, rt, IpAddr::V6(Ipv6Addr::UNSPECIFIED));
     let code = run_process(
         &rt,
         &rt,

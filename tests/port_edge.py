@@ -1,0 +1,316 @@
+#!/usr/bin/env python3
+"""The edge of the port: `node` and `serve` where the system has an error, few descriptors or a slow client for them.
+
+Use, from anywhere: python3 tests/port_edge.py [--program PATH] [NAME ..]
+
+Each process listens at a free port, takes so many connections as its test makes, and is ended at the test's end. The
+errors of `accept` are made by strace; where a machine has none, or no IPv6, those tests are skipped by name. Ends with
+'N passed, M failed, K skipped', and with the status 0 exactly where none failed. Standard library alone.
+"""
+from __future__ import annotations
+
+import argparse
+import contextlib
+import functools
+import pathlib
+import re
+import shutil
+import socket
+import subprocess
+import sys
+import tempfile
+import threading
+import time
+from collections.abc import Callable, Iterator
+from typing import Tuple
+
+PROGRAM = pathlib.Path(__file__).resolve().parent.parent / "crates" / "topk" / "out" / "topk"
+# The most seconds that one step of a test may take. What is right takes a few.
+SECONDS = 120
+ROWS = 10_000
+# What the system may say of one connection, or of the network, and what it says where it wants something for a while.
+PASSING = ("EINTR", "EPERM", "ENONET", "EPROTO", "ENOPROTOOPT", "EOPNOTSUPP", "ENETDOWN", "ENETUNREACH",
+           "ECONNABORTED", "ETIMEDOUT", "EHOSTDOWN", "EHOSTUNREACH")
+WANTING = ("EMFILE", "ENFILE", "ENOBUFS", "ENOMEM")
+# What it says where nobody listens any more.
+ENDING = ("EBADF", "EINVAL", "ENOTSOCK")
+QUERY = f"top {ROWS} by sum(A,B) using nra"
+LINE = f"GET /top?q={QUERY.replace(' ', '+').replace(',', '%2C')} HTTP/1.1\r\nHost: h\r\n"
+PAGE = f"GET /lists/A/page?from=1&count={ROWS} HTTP/1.1\r\nHost: h\r\n"
+SIZE = b"GET /lists/A/size HTTP/1.1\r\nHost: h\r\n\r\n"
+BODY = b"b" * 300_000
+
+
+# A process that listens at a port.
+Started = contextlib.AbstractContextManager[Tuple[int, "subprocess.Popen[bytes]"]]
+
+
+class Skipped(Exception):
+    """What this machine lacks."""
+
+
+def catalog(place: str) -> None:
+    """A catalog of two lists of 10,000 rows, whose orders are opposite."""
+    path = pathlib.Path(place)
+    path.joinpath("catalog.csv").write_text("name,place,random\nA,a.csv,yes\nB,b.csv,yes\n", encoding="ascii")
+    for name, objects in (("a", range(ROWS)), ("b", reversed(range(ROWS)))):
+        rows = (f"{4_000_000_000 + number},{1_000_000 - rank}\n" for rank, number in enumerate(objects))
+        path.joinpath(f"{name}.csv").write_text("object,grade\n" + "".join(rows), encoding="ascii")
+
+
+@contextlib.contextmanager
+def begun(program: str, words: list[str], conns: int, before: tuple[str, ...] = (),
+          files: int | None = None) -> Iterator[tuple[int, subprocess.Popen[bytes]]]:
+    """A process that listens at a free port, behind a tracer's words, with so many descriptors: its port, and it."""
+    with tempfile.TemporaryDirectory() as place, socket.socket() as taken:
+        catalog(place)
+        taken.bind(("127.0.0.1", 0))
+        port = taken.getsockname()[1]
+        taken.close()
+        command = [*before, program, *words, "--conns", str(conns), "--at", str(port)]
+        if files is not None:
+            command = ["sh", "-c", f'ulimit -n {files}; exec "$@"', "sh", *command]
+        with subprocess.Popen(command, stdout=subprocess.PIPE, stderr=subprocess.DEVNULL, cwd=place) as process:
+            try:
+                yield port, process
+            finally:
+                process.kill()
+
+
+def node(program: str, conns: int, before: tuple[str, ...] = ()) -> Started:
+    """A node of list A."""
+    return begun(program, ["node", "catalog.csv", "A"], conns, before)
+
+
+def server(program: str, conns: int, before: tuple[str, ...] = ()) -> Started:
+    """A server over both lists."""
+    return begun(program, ["serve", "catalog.csv"], conns, before)
+
+
+def connected(port: int, host: str = "127.0.0.1") -> socket.socket:
+    """A connection to a port as soon as something listens at it."""
+    end = time.monotonic() + SECONDS
+    while True:
+        try:
+            return socket.create_connection((host, port), SECONDS)
+        except ConnectionRefusedError:
+            if time.monotonic() > end:
+                raise
+            time.sleep(0.02)
+
+
+def received(link: socket.socket, piece: int = 65536, pause: float = 0) -> bytes:
+    """What comes of a connection until it is closed or broken off, read in such pieces with such pauses."""
+    parts = []
+    with contextlib.suppress(ConnectionError):
+        while part := link.recv(piece):
+            parts.append(part)
+            time.sleep(pause)
+    return b"".join(parts)
+
+
+def asked(port: int, request: bytes, host: str = "127.0.0.1") -> bytes:
+    """The reply to a request."""
+    with connected(port, host) as link:
+        link.sendall(request)
+        return received(link)
+
+
+def ended(process: subprocess.Popen[bytes], status: int, output: bytes) -> str | None:
+    """What is wrong with how a process ended, or None."""
+    out, _ = process.communicate(timeout=SECONDS)
+    if (process.returncode, out) != (status, output):
+        return f"ended with {process.returncode} and {out!r}, not with {status} and {output!r}"
+    return None
+
+
+def injected(error: str, when: str = "1..3") -> tuple[str, ...]:
+    """The words of a tracer by which these calls of `accept` have this error."""
+    if shutil.which("strace") is None:
+        raise Skipped("there is no strace")
+    what = f"inject=accept4:error={error}:when={when}"
+    return ("strace", "-f", "-qq", "-o", "/dev/null", "-e", "trace=accept4", "-e", what)
+
+
+def passed_over(program: str, error: str) -> str | None:
+    """A node and a server go on behind an error of three calls, and answer."""
+    for kind, request in ((node, SIZE), (server, LINE.encode() + b"\r\n")):
+        with kind(program, 1, before=injected(error)) as (port, process):
+            given = asked(port, request)
+            if not given.startswith(b"HTTP/1.1 200 OK\r\n"):
+                return f"{kind.__name__}: replied {given[:200]!r}"
+            wrong = ended(process, 0, b"served 1\n")
+            if wrong is not None:
+                return f"{kind.__name__}: {wrong}"
+    return None
+
+
+def gives_up(program: str, error: str) -> str | None:
+    """A node and a server end where nobody listens any more."""
+    for kind in (node, server):
+        with kind(program, 1, before=injected(error, "1")) as (_, process):
+            wrong = ended(process, 7, b"")
+            if wrong is not None:
+                return f"{kind.__name__}: {wrong}"
+    return None
+
+
+def few_descriptors(program: str) -> str | None:
+    """A server with 24 descriptors answers each of 100 clients that have all connected before the first one asks."""
+    count = 100
+    words = ["serve", "catalog.csv", "--workers", "2"]
+    with begun(program, words, count, files=24) as (port, process):
+        links = [connected(port) for _ in range(count)]
+        for link in links:
+            link.sendall(b"GET /top?q= HTTP/1.1\r\nHost: h\r\n\r\n")
+        replies = []
+        for link in links:
+            replies.append(received(link))
+            link.close()
+        wrong = ended(process, 0, b"served %d\n" % count)
+    bad = next((number for number, given in enumerate(replies) if not given.startswith(b"HTTP/1.1 200 OK\r\n")), None)
+    return wrong if bad is None else f"client {bad}: {replies[bad][:200]!r}"
+
+
+def slowly(port: int, head: str) -> bytes:
+    """The reply to a request with a body, read slowly through a small buffer, while the body is still being sent."""
+    with socket.socket() as link:
+        link.setsockopt(socket.SOL_SOCKET, socket.SO_RCVBUF, 4096)
+        link.settimeout(SECONDS)
+        link.connect(("127.0.0.1", port))
+
+        def send() -> None:
+            with contextlib.suppress(OSError):
+                link.sendall(f"{head}Content-Length: {len(BODY)}\r\n\r\n".encode() + BODY)
+
+        sender = threading.Thread(target=send)
+        sender.start()
+        given = received(link, 8192, 0.001)
+        sender.join()
+        return given
+
+
+def whole_replies(program: str) -> str | None:
+    """Clients that send a body and read slowly have the whole reply, each of 100 times."""
+    for kind, head in ((node, PAGE), (server, LINE)):
+        with kind(program, 101) as (port, process):
+            wanted = asked(port, head.encode() + b"\r\n")
+            if len(wanted) < 200_000 or not wanted.startswith(b"HTTP/1.1 200 OK\r\n"):
+                return f"{kind.__name__}: replied {len(wanted)} bytes, {wanted[:100]!r}"
+            for number in range(100):
+                given = slowly(port, head)
+                if given != wanted:
+                    return f"{kind.__name__}: client {number} had {len(given)} of {len(wanted)} bytes"
+            wrong = ended(process, 0, b"served 101\n")
+            if wrong is not None:
+                return f"{kind.__name__}: {wrong}"
+    return None
+
+
+def client_that_stays(program: str) -> str | None:
+    """A client that stays connected after its reply, and one that goes on sending, hold a node for a bounded time."""
+    for sends, most in ((False, 8), (True, 20)):
+        with node(program, 2) as (port, process), connected(port) as link:
+            link.sendall(SIZE)
+            given, start, done = received(link), time.monotonic(), threading.Event()
+
+            def drip() -> None:
+                with contextlib.suppress(OSError):
+                    while sends and not done.wait(0.2):
+                        link.sendall(b"x")
+
+            dripping = threading.Thread(target=drip)
+            dripping.start()
+            other = asked(port, SIZE)
+            took = time.monotonic() - start
+            done.set()
+            dripping.join()
+            if other != given or took > most:
+                return f"the next client had {other[:100]!r} after {took:.1f} s"
+            wrong = ended(process, 0, b"served 2\n")
+            if wrong is not None:
+                return wrong
+    return None
+
+
+def both_families(program: str) -> str | None:
+    """A node and a server are reached by IPv4 and by IPv6, and a port that is taken is refused."""
+    try:
+        socket.create_server(("::1", 0), family=socket.AF_INET6).close()
+    except OSError as fault:
+        raise Skipped(f"there is no IPv6: {fault.strerror}") from None
+    for kind, request in ((node, SIZE), (server, b"GET /top?q= HTTP/1.1\r\nHost: h\r\n\r\n")):
+        with kind(program, 3) as (port, process):
+            replies = [asked(port, request, host) for host in ("127.0.0.1", "::1", "127.0.0.1")]
+            if len(set(replies)) != 1 or not replies[0].startswith(b"HTTP/1.1 200 OK\r\n"):
+                return f"{kind.__name__}: replied {replies!r}"
+            wrong = ended(process, 0, b"served 3\n")
+            if wrong is not None:
+                return f"{kind.__name__}: {wrong}"
+    for family, host in ((socket.AF_INET, "127.0.0.1"), (socket.AF_INET6, "::")):
+        listening = socket.create_server((host, 0), family=family, dualstack_ipv6=host == "::")
+        with listening as taken, tempfile.TemporaryDirectory() as place:
+            catalog(place)
+            words = [program, "node", "catalog.csv", "A", "--at", str(taken.getsockname()[1])]
+            status = subprocess.run(words, cwd=place, capture_output=True, timeout=SECONDS, check=False).returncode
+            if status != 7:
+                return f"a port that is taken at {host} gave status {status}"
+    return None
+
+
+def host_looked_up_once(program: str) -> str | None:
+    """A run over a list of a host asks for the host's address once, however many calls it makes."""
+    if shutil.which("strace") is None:
+        raise Skipped("there is no strace")
+    if not any(it[4][0] == "127.0.0.1" for it in socket.getaddrinfo("localhost", 80, type=socket.SOCK_STREAM)):
+        raise Skipped("localhost isn't 127.0.0.1")
+    with node(program, 1_000_000) as (port, _), tempfile.TemporaryDirectory() as place:
+        connected(port).close()
+        path = pathlib.Path(place)
+        text = f"name,place,random\nA,http://localhost:{port}/lists/A,yes\n"
+        path.joinpath("catalog.csv").write_text(text, encoding="ascii")
+        command = ["strace", "-f", "-qq", "-o", "trace", "-e", "trace=openat,connect", program, "run", "--page", "1"]
+        done = subprocess.run([*command, "catalog.csv"], input=b"top 9 by A using nra\n", cwd=place, capture_output=True,
+                              timeout=SECONDS, check=False)
+        trace = path.joinpath("trace").read_text(encoding="utf8", errors="replace")
+        dials, lookups = len(re.findall(rf"connect\(.*htons\({port}\)", trace)), trace.count('"/etc/hosts"')
+        if done.returncode != 0 or dials < 9 or lookups != 1:
+            return f"ended with {done.returncode}; {dials} connections, {lookups} looks at the hosts"
+    return None
+
+
+def tests() -> Iterator[tuple[str, Callable[[str], str | None]]]:
+    """Names with what runs the test of a program: it answers what is wrong, or None, or raises Skipped."""
+    for error in PASSING + WANTING:
+        yield f"port_edge_passes_{error}", functools.partial(passed_over, error=error)
+    for error in ENDING:
+        yield f"port_edge_ends_{error}", functools.partial(gives_up, error=error)
+    for test in (few_descriptors, whole_replies, client_that_stays, both_families, host_looked_up_once):
+        yield f"port_edge_{test.__name__}", test
+
+
+def main() -> int:
+    """Runs the tests that were named, or all."""
+    words = argparse.ArgumentParser(description="Tests of the edge of the port.")
+    words.add_argument("--program", default=str(PROGRAM))
+    words.add_argument("names", nargs="*")
+    given = words.parse_args()
+    program, counts = str(pathlib.Path(given.program).resolve()), {"passed": 0, "failed": 0, "skipped": 0}
+    for name, test in tests():
+        if given.names and name not in given.names:
+            continue
+        try:
+            wrong = test(program)
+            result = "passed" if wrong is None else "failed"
+        except Skipped as lack:
+            wrong, result = str(lack), "skipped"
+        except (OSError, subprocess.TimeoutExpired) as fault:
+            wrong, result = f"{type(fault).__name__}: {fault}", "failed"
+        counts[result] += 1
+        print(f"{result} {name}" + (f": {wrong}" if wrong else ""), flush=True)
+    print(", ".join(f"{count} {result}" for result, count in counts.items()))
+    return 1 if counts["failed"] else 0
+
+
+if __name__ == "__main__":
+    sys.exit(main())
