@@ -269,9 +269,10 @@ def host_looked_up_once(program: str) -> str | None:
         path = pathlib.Path(place)
         text = f"name,place,random\nA,http://localhost:{port}/lists/A,yes\n"
         path.joinpath("catalog.csv").write_text(text, encoding="ascii")
-        command = ["strace", "-f", "-qq", "-o", "trace", "-e", "trace=openat,connect", program, "run", "--page", "1"]
-        done = subprocess.run([*command, "catalog.csv"], input=b"top 9 by A using nra\n", cwd=place, capture_output=True,
-                              timeout=SECONDS, check=False)
+        command = ["strace", "-f", "-qq", "-o", "trace", "-e", "trace=openat,connect"]
+        command += [program, "run", "--page", "1", "catalog.csv"]
+        line = b"top 9 by A using nra\n"
+        done = subprocess.run(command, input=line, cwd=place, capture_output=True, timeout=SECONDS, check=False)
         trace = path.joinpath("trace").read_text(encoding="utf8", errors="replace")
         dials, lookups = len(re.findall(rf"connect\(.*htons\({port}\)", trace)), trace.count('"/etc/hosts"')
         if done.returncode != 0 or dials < 9 or lookups != 1:

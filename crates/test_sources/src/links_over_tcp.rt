@@ -3,7 +3,7 @@
 use std::alloc::Global;
 use std::cell::Cell;
 use std::io;
-use std::net::{IpAddr, Ipv4Addr, Net, TcpListener, TcpStream};
+use std::net::{IpAddr, Ipv4Addr, Ipv6Addr, Net, TcpListener, TcpStream};
 use std::time::{Clock, Duration};
 use tk_io::{Dial, Intake, Link, NetDial, NetPort, Port, Sink, read_text, write_text};
 
@@ -56,6 +56,47 @@ fn is_reached<R: Net<Listener = TcpListener, Stream = TcpStream> + Clock + Copy 
 #[test]
 fn a_connection_goes_both_ways(rt: HostRuntime) {
     assert!(rt; is_reached(rt.alloc(), &rt));
+}
+
+/// Whether a client that sent more than was read of it has the whole reply, though the other end was given back.
+fn is_whole<P: Port, D: Dial>(alloc: Global, port: &mut P, dial: &mut D, number: u16) -> bool {
+    let text = [b't'; 100_000];
+    let Ok(mut client) = dial.dial("127.0.0.1", number) else {
+        return false;
+    };
+    let Ok(Some(mut server)) = port.accept() else {
+        dial.hang_up(client);
+        return false;
+    };
+    let is_sent = write_text(&mut client, &text).is_ok();
+    let is_replied = write_text(&mut server, &text).is_ok();
+    port.hang_up(server);
+    let is_whole = match read_text(alloc, &mut client, 100_000) {
+        Ok(reply) => reply.as_slice() == text.as_slice(),
+        Err(_) => false,
+    };
+    dial.hang_up(client);
+    is_sent && is_replied && is_whole
+}
+
+/// Whether a port at a free number gives whole replies.
+fn gives_whole<R: Net<Listener = TcpListener, Stream = TcpStream> + Clock + Copy + Send + Drop>(
+    alloc: Global,
+    net: R,
+) -> bool {
+    let mut port = NetPort::make(net, net, IpAddr::V6(Ipv6Addr::UNSPECIFIED));
+    let mut dial = NetDial::make(net, net);
+    let listens = port.listen(0).is_ok();
+    let Some(number) = port.number() else {
+        return false;
+    };
+    let is_whole = is_whole(alloc, &mut port, &mut dial, number);
+    listens && is_whole && dial.fault_count() == 0
+}
+
+#[test]
+fn a_reply_comes_whole_over_bytes_that_nobody_read(rt: HostRuntime) {
+    assert!(rt; gives_whole(rt.alloc(), &rt));
 }
 
 /// A clock that shows the seconds which a test sets.
