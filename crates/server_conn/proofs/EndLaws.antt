@@ -10,18 +10,18 @@ use Rattle.wire.specs.declared.request.Head.{Head}
 use Rattle.wire.specs.Writing.{reply_text}
 use Rattle.wire.specs.declared.writing.Kind.TheVariants.{Text}
 use Rattle.tk_io.specs.Faults.{Rose}
-use Rattle.source_node.specs.Refusals.{status_of, body_of, refusal_of, IsRefusedAs}
-use Rattle.source_node.proofs.EndLaws.{refused_quiet}
+use Rattle.wire.specs.Refusals.{status_of, body_of, refusal_of, IsRefusedAs}
+use Rattle.wire.proofs.RefusalLaws.{refused_quiet}
 use Rattle.source_pool.specs.declared.hold.Hold.{Hold}
-use Rattle.source_node.specs.Connections.{asks_head}
-use Rattle.source_node.specs.declared.refusal.Refusal.{Refusal}
-use Rattle.source_node.specs.declared.refusal.Refusal.TheVariants.{TooLarge, BadRequest, NotFound, MethodNotAllowed, SourceFailed, NoMemory}
+use Rattle.wire.specs.Replies.{asks_head, Sends}
+use Rattle.wire.specs.declared.refusal.Refusal.{Refusal}
+use Rattle.wire.specs.declared.refusal.Refusal.TheVariants.{TooLarge, BadRequest, NotFound, MethodNotAllowed, SourceFailed, NoMemory}
 use Rattle.query_admission.specs.View.{View}
 use Rattle.server_conn.specs.Asking.{by_parts, routed, line_at, line_in, AsksAt, AsksFor}
 use Rattle.server_conn.specs.Becoming.{LineSaid}
-use Rattle.server_conn.specs.Connections.{Visit, Tells, TellsAsked, Serves, ServesHeard, Sends, SendsAnswer, Ends}
-use Rattle.server_conn.specs.declared.conn.ConnEnd.{ConnEnd}
-use Rattle.server_conn.specs.declared.conn.ConnEnd.TheVariants.{LinkFault}
+use Rattle.server_conn.specs.Connections.{Visit, Tells, TellsAsked, Serves, ServesHeard, SendsAnswer, Ends}
+use Rattle.wire.specs.declared.replying.ConnEnd.{ConnEnd}
+use Rattle.wire.specs.declared.replying.ConnEnd.TheVariants.{LinkFault}
 use Rattle.server_conn.specs.declared.conn.Turn.{Turn}
 
 -- a line that is asked about is on the route
@@ -102,16 +102,11 @@ unheard view visit held faults mid fault why turn is reads counts later same_hel
     replied view visit held faults (Err fault) (Err why) turn reads (later ∙ refused_quiet visit.read_faults mid fault why is counts) same_held same_faults
     (subst (λ (o : Option Refusal). IsRefusedAs {A = LineSaid} o visit.before visit.now (Err why)) (sym is) (refl, same)) sends
 
--- a reply that is sent, by equal figures
-pub refusal_sent : (held held_now : Option (List ℕ)) (faults faults_now status : ℕ) (body : Option (List ℕ)) (is_head : Bool) (why : Refusal) (end : ConnEnd)
-    → status ≡ status_of why → body ≡ body_of is_head why
-    → Sends held held_now faults faults_now status (reply_text status Text body) end
+-- a reply that is sent is that of its answer
+pub refusal_sent : (held held_now : Option (List ℕ)) (faults faults_now : ℕ) (is_head : Bool) (why : Refusal) (end : ConnEnd)
+    → Sends held held_now faults faults_now (status_of why) (reply_text (status_of why) Text (body_of is_head why)) end
     → SendsAnswer is_head (Err why) held held_now faults faults_now (record { end = end; moved = false })
-refusal_sent held held_now faults faults_now status body is_head why end one two sends = record {
-  sends = subst (λ n. Sends held held_now faults faults_now n (reply_text n Text (body_of is_head why)) end) one
-      (subst (λ (b : Option (List ℕ)). Sends held held_now faults faults_now status (reply_text status Text b) end) two sends);
-  moved = refl;
-}
+refusal_sent held held_now faults faults_now is_head why end sends = record { sends = sends; moved = refl }
 
 pub told_sent : (held held_now : Option (List ℕ)) (faults faults_now : ℕ) (body : List ℕ) (is_head : Bool) (told : LineSaid) (end : ConnEnd) → body ≡ told.text
     → Sends held held_now faults faults_now 200 (reply_text 200 Text (Some body)) end

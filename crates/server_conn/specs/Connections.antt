@@ -1,24 +1,21 @@
 -- How a connection of a query server ends.
 use Rattle.std.specs.Prelude.{◌≡◌, ◌⊎◌, ⊤, ℕ, Bool, false, List, codes, Option, Some, IfSome, Result, Ok, Err, IsOk}
 use Rattle.std.specs.Str.{bytes_eq}
-use Rattle.std.specs.Io.KnownBytes.{Appends}
 use Rattle.tk_io.specs.Faults.{Rose}
-use Rattle.tk_io.specs.Whole.{TookFront}
 use Rattle.wire.specs.Heads.{AnswersRequest}
 use Rattle.wire.specs.Writing.{reply_text}
 use Rattle.wire.specs.declared.fault.WireFault.{WireFault}
 use Rattle.wire.specs.declared.request.Head.{Head}
 use Rattle.wire.specs.declared.writing.Kind.TheVariants.{Text}
 use Rattle.source_pool.specs.declared.hold.Hold.{Hold}
-use Rattle.source_node.specs.Connections.{asks_head}
-use Rattle.source_node.specs.Refusals.{status_of, body_of, refusal_of, IsRefusedAs}
-use Rattle.source_node.specs.declared.refusal.Refusal.{Refusal}
-use Rattle.source_node.specs.declared.refusal.Refusal.TheVariants.{NoMemory}
+use Rattle.wire.specs.Refusals.{status_of, body_of, refusal_of, IsRefusedAs}
+use Rattle.wire.specs.Replies.{asks_head, Sends}
+use Rattle.wire.specs.declared.refusal.Refusal.{Refusal}
+use Rattle.wire.specs.declared.refusal.Refusal.TheVariants.{NoMemory}
 use Rattle.query_admission.specs.View.{View}
 use Rattle.server_conn.specs.Asking.{routed, line_in}
 use Rattle.server_conn.specs.Becoming.{LineSaid, IsLineTold}
-use Rattle.server_conn.specs.declared.conn.ConnEnd.{ConnEnd}
-use Rattle.server_conn.specs.declared.conn.ConnEnd.TheVariants.{Replied, LinkFault}
+use Rattle.wire.specs.declared.replying.ConnEnd.TheVariants.{LinkFault}
 use Rattle.server_conn.specs.declared.conn.Turn.{Turn}
 
 -- what stands before and after a connection: the bytes that the link had to give and those that it took, where it tells them, its counts of
@@ -52,7 +49,7 @@ Serves view method target before now answer = TellsAsked view (line_in method ta
 
 -- how what was heard is answered: a head, or what kept it from being read, which is refused without a look
 abbrev pub ServesHeard : View → Result Head WireFault → List Hold → List Hold → Result LineSaid Refusal → Type 0
-ServesHeard view (Ok head) before now answer = Serves view head.method.items head.target.items before now answer
+ServesHeard view (Ok head) before now answer = Serves view head.method head.target.items before now answer
 ServesHeard view (Err fault) before now answer = IsRefusedAs (refusal_of fault) before now answer
 
 -- the status of an answer
@@ -77,11 +74,6 @@ pub record IsVisitServed (view : View) (visit : Visit) : Type 0 where
   pub reads : IfSome visit.came (λ bytes. AnswersRequest bytes heard)
   pub quiet : visit.read_faults_now ≡ visit.read_faults
   pub serves : ServesHeard view heard visit.before visit.now answer
-
--- a reply is written whole, with its status, or a front of it and the link failed
-abbrev pub Sends : Option (List ℕ) → Option (List ℕ) → ℕ → ℕ → ℕ → List ℕ → ConnEnd → Type 0
-Sends held held_now faults faults_now status text (Replied said) = (said ≡ status) × Appends held held_now text × (faults_now ≡ faults)
-Sends held held_now faults faults_now status text LinkFault = TookFront held held_now text × Rose faults faults_now
 
 -- a reply was sent of this answer, and it is told whether a source moved
 pub record SendsAnswer (is_head : Bool) (answer : Result LineSaid Refusal) (held held_now : Option (List ℕ)) (faults faults_now : ℕ) (turn : Turn) : Type 0 where

@@ -5,10 +5,9 @@ ghost use Rattle.std.specs.Cow.{cow_str_bytes};
 ghost use Rattle.std.specs.Result.{result_map_both};
 ghost use Rattle.server_conn.specs.Asking.{routed, AsksFor, AsksAt};
 
-use source_node::Refusal;
 use std::alloc::Global;
 use std::borrow::CowStr;
-use wire::{Head, read_target, value_in};
+use wire::{Head, Refusal, read_target, value_in};
 
 /// The query line that the head of a request asks about, or why it is refused.
 ///
@@ -16,22 +15,22 @@ use wire::{Head, read_target, value_in};
 /// RFC 9112, section 3.2 says; a path other than `/top` isn't found; and a query part without `q` is bad. The line is the value of the
 /// first `q`, which is empty where that has no `=`. Only a query part takes memory to read.
 pub(crate) fn line_asked<'h>(alloc: Global, head: &'h Head) -> Result<CowStr<'h>, Refusal>
-    ensures { AsksFor head.now.method.items head.now.target.items (result_map_both cow_str_bytes (λ why. why) result) }
+    ensures { AsksFor head.now.method head.now.target.items (result_map_both cow_str_bytes (λ why. why) result) }
 {
-    match routed(head.method.as_slice(), head.target.as_slice()) {
+    match routed(head) {
         Ok(query) => line_at(alloc, query),
         Err(why) => Err(why),
     }
 }
 
 /// The query part of a request on the route, by its method and its target.
-fn routed<'t>(method: &[u8], target: &'t [u8]) -> Result<&'t [u8], Refusal>
-    ensures { result_map_both (λ query. query.now) (λ why. why) result ≡ routed method.now target.now }
+fn routed(head: &Head) -> Result<&[u8], Refusal>
+    ensures { result_map_both (λ query. query.now) (λ why. why) result ≡ routed head.now.method head.now.target.items }
 {
-    if method != b"GET".as_slice() {
+    if !head.is_get() {
         return Err(Refusal::MethodNotAllowed);
     }
-    let Some(target) = read_target(target) else {
+    let Some(target) = read_target(head.target.as_slice()) else {
         return Err(Refusal::BadRequest);
     };
     if target.path != b"/top".as_slice() {

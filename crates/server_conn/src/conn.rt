@@ -1,34 +1,22 @@
 //! One connection of a query server.
 
-ghost use Rattle.std.specs.Prelude.{◌≡◌, [], true, codes, Some, option_copied, Err};
-ghost use Rattle.std.specs.Str.{bytes_eq};
+ghost use Rattle.std.specs.Prelude.{◌≡◌, [], false};
 ghost use Rattle.wire.specs.Sparing.{HoldsRequest, ReadsSparingly};
-ghost use Rattle.wire.specs.Writing.{has_reason, reply_text};
 ghost use Rattle.server_conn.specs.Entries.{view_in, MayAnswer};
 ghost use Rattle.query_run.specs.Advancing.{KnowsAll};
 ghost use Rattle.server_conn.specs.Answers.{Remembers};
-ghost use Rattle.server_conn.specs.Connections.{Ends, Sends, SendsAnswer, IsRepliedTo, IsLineReplied};
+ghost use Rattle.server_conn.specs.Connections.{Ends, IsRepliedTo, IsLineReplied};
 
 use super::answers::Answers;
 use super::asked::line_asked;
 use super::line::tell_line;
 use super::opened::Opened;
-use source_node::{Refusal, refusal_of};
+use http::StatusCode;
 use source_pool::{Pool, PoolPass};
 use std::alloc::Global;
 use std::sync::Wait;
 use tk_io::Link;
-use wire::{Head, Kind, read_request, write_reply};
-
-/// How a connection ended.
-#[derive(Clone, Copy, PartialEq, Eq)]
-pub enum ConnEnd {
-    /// The whole reply was written, with this status.
-    Replied { status: u16 },
-    /// A read or a write of the link failed, and its count has gone up. A front of the reply may have been
-    /// written.
-    LinkFault,
-}
+use wire::{ConnEnd, Head, Kind, read_request, refusal_of, refuse, send};
 
 /// How a connection ended, and whether its line was refused since a source moved to another version.
 #[derive(Clone, Copy)]
@@ -87,11 +75,8 @@ pub fn serve_conn<L: Link>(
             turn
         }
         Err(fault) => match refusal_of(fault) {
-            Some(why) => refuse(link, why, false),
-            None => Turn {
-                end: ConnEnd::LinkFault,
-                moved: false,
-            },
+            Some(why) => unmoved(refuse(link, why, false)),
+            None => unmoved(ConnEnd::LinkFault),
         },
     }
 }
@@ -114,10 +99,10 @@ fn answer_head<L: Link>(
     ensures remembers { Remembers (view_in catalog.now) pass.new answers.new }
     ensures apart { L.Sink.aside link.new ≡ L.Sink.aside link.old }
     ensures incoming { (L.left link.new ≡ L.left link.old) × (L.Intake.faults link.new ≡ L.Intake.faults link.old) × (L.Intake.pieces link.new ≡ L.Intake.pieces link.old) }
-    ensures replied { IsRepliedTo (view_in catalog.now) head.now.method.items head.now.target.items pass.old pass.new
+    ensures replied { IsRepliedTo (view_in catalog.now) head.now.method head.now.target.items pass.old pass.new
         (L.held link.old) (L.held link.new) (L.Sink.faults link.old) (L.Sink.faults link.new) result }
 {
-    let is_head = is_head(head);
+    let is_head = head.is_head();
     match line_asked(alloc, head) {
         Ok(line) => {
             let bytes = line.as_str().as_bytes();
@@ -127,15 +112,8 @@ fn answer_head<L: Link>(
             drop(line);
             turn
         }
-        Err(why) => refuse(link, why, is_head),
+        Err(why) => unmoved(refuse(link, why, is_head)),
     }
-}
-
-/// Whether the method is HEAD.
-fn is_head(head: &Head) -> bool
-    ensures { result ≡ bytes_eq head.now.method.items (codes "HEAD") }
-{
-    head.method.as_slice() == b"HEAD".as_slice()
 }
 
 /// Replies to a request for a query line: by the answer that is remembered of it, or by what is told of it now.
@@ -161,45 +139,23 @@ fn answer_line<L: Link>(
         (L.held link.old) (L.held link.new) (L.Sink.faults link.old) (L.Sink.faults link.new) result }
 {
     if let Some(text) = answers.find(line) {
-        return Turn {
-            end: send(link, 200, Some(text)),
-            moved: false,
-        };
+        return unmoved(send(link, StatusCode::OK, Kind::Text, Some(text)));
     }
     match tell_line(rt, alloc, catalog, pool, pass, line) {
         Ok(told) => {
-            let end = send(link, 200, Some(told.text.as_slice()));
+            let end = send(link, StatusCode::OK, Kind::Text, Some(told.text.as_slice()));
             let moved = told.moved;
             answers.keep(alloc, line, &told);
             drop(told);
             Turn { end, moved }
         }
-        Err(why) => refuse(link, why, is_head),
+        Err(why) => unmoved(refuse(link, why, is_head)),
     }
 }
 
-/// Writes the reply of a refusal, which has no body where the method is HEAD.
-fn refuse<L: Link>(link: &mut L, why: Refusal, is_head: bool) -> Turn
-    ensures apart { L.Sink.aside link.new ≡ L.Sink.aside link.old }
-    ensures incoming { (L.left link.new ≡ L.left link.old) × (L.Intake.faults link.new ≡ L.Intake.faults link.old) × (L.Intake.pieces link.new ≡ L.Intake.pieces link.old) }
-    ensures sends { SendsAnswer is_head (Err why) (L.held link.old) (L.held link.new) (L.Sink.faults link.old) (L.Sink.faults link.new) result }
+/// The end of a connection with no source that moved.
+fn unmoved(end: ConnEnd) -> Turn
+    ensures { result ≡ record { end = end; moved = false } }
 {
-    Turn {
-        end: send(link, why.status(), why.body(is_head)),
-        moved: false,
-    }
-}
-
-/// Writes a reply in plain text.
-fn send<L: Link>(link: &mut L, status: u16, body: Option<&[u8]>) -> ConnEnd
-    requires { has_reason status ≡ true }
-    ensures apart { L.Sink.aside link.new ≡ L.Sink.aside link.old }
-    ensures incoming { (L.left link.new ≡ L.left link.old) × (L.Intake.faults link.new ≡ L.Intake.faults link.old) × (L.Intake.pieces link.new ≡ L.Intake.pieces link.old) }
-    ensures sends { Sends (L.held link.old) (L.held link.new) (L.Sink.faults link.old) (L.Sink.faults link.new)
-        status (reply_text status Kind.Text (option_copied body.entry)) result }
-{
-    match write_reply(link, status, Kind::Text, body) {
-        Ok(()) => ConnEnd::Replied { status },
-        Err(_) => ConnEnd::LinkFault,
-    }
+    Turn { end, moved: false }
 }

@@ -14,6 +14,6 @@ mod opened;
 mod text;
 
 pub use answers::{Answers, MAX_ANSWER, MAX_ANSWERS};
-pub use conn::{ConnEnd, Turn, serve_conn};
+pub use conn::{Turn, serve_conn};
 pub use laws::fails_are_shown;
 pub use opened::{Opened, OpenedEntry};

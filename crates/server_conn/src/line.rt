@@ -38,7 +38,7 @@ pub(crate) fn tell_line(
     pool: &Pool,
     pass: &mut PoolPass,
     line: &[u8],
-) -> Result<ToldLine, source_node::Refusal>
+) -> Result<ToldLine, wire::Refusal>
     requires fit { MayAnswer catalog.now pool.now pass.old }
     ensures fit { MayAnswer catalog.now pool.now pass.new }
     ensures knows { KnowsAll pass.old pass.new }
@@ -56,10 +56,10 @@ pub(crate) fn tell_line(
                     answered,
                     moved,
                 }),
-                Err(_) => Err(source_node::Refusal::NoMemory),
+                Err(_) => Err(wire::Refusal::NoMemory),
             }
         }
-        Err(_) => Err(source_node::Refusal::NoMemory),
+        Err(_) => Err(wire::Refusal::NoMemory),
     }
 }
 

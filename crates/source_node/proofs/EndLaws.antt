@@ -8,7 +8,7 @@ use Rattle.wire.specs.declared.fault.WireFault.{WireFault}
 use Rattle.wire.specs.declared.fault.WireFault.TheVariants as heard
 use Rattle.wire.specs.declared.request.Head.{Head}
 use Rattle.wire.specs.LinkTold.{Counts as Counted}
-use Rattle.source_node.specs.Refusals.{status_of, body_of, refusal_of, IsRefusedAs}
+use Rattle.wire.specs.Refusals.{status_of, body_of, refusal_of, IsRefusedAs}
 use Rattle.source_api.specs.declared.counts.Counts.{Counts}
 use Rattle.source_api.specs.declared.source.Trouble.{Trouble}
 use Rattle.source_api.specs.declared.source.FailKind.TheVariants as kind
@@ -17,17 +17,19 @@ use Rattle.source_api.specs.Calls.{Call}
 use Rattle.source_api.specs.Counting.{TroubleHasCause, gave_rows, gave_grade}
 use Rattle.source_node.specs.Asking.{OnRoute, on_route, by_parts, route_of, routed, asked_at, asked_of, AsksAt, AsksFor, HasCount}
 use Rattle.source_node.specs.Serving.{Seen, Answers, Fails, IsQuiet, given_by}
-use Rattle.source_node.specs.Connections.{Visit, IsTroubled, IsFailed, IsStarved, StarvesAt, Serving, ServesAsked, Serves, ServesHeard, asks_head, status_in, reply_of, Sends, IsServed, Ends}
+use Rattle.source_node.specs.Connections.{Visit, IsTroubled, IsFailed, IsStarved, StarvesAt, Serving, ServesAsked, Serves, ServesHeard, status_in, reply_of, IsServed, Ends}
+use Rattle.wire.specs.Replies.{asks_head, Sends}
+use Rattle.wire.proofs.RefusalLaws.{refused_quiet}
 use Rattle.wire.specs.Targets.{Parts, parts_of}
 use Rattle.wire.specs.Writing.{reply_text}
 use Rattle.wire.specs.declared.writing.Kind.TheVariants.{Text, Json}
 use Rattle.source_node.specs.declared.answer.Answer.{Answer}
 use Rattle.source_node.specs.declared.asked.Asked.{Asked}
 use Rattle.source_node.specs.declared.asked.Route.{Route}
-use Rattle.source_node.specs.declared.node.ConnEnd.{ConnEnd}
-use Rattle.source_node.specs.declared.node.ConnEnd.TheVariants.{Replied, LinkFault}
-use Rattle.source_node.specs.declared.refusal.Refusal.{Refusal}
-use Rattle.source_node.specs.declared.refusal.Refusal.TheVariants.{TooLarge, BadRequest, NotFound, MethodNotAllowed, SourceFailed, NoMemory}
+use Rattle.wire.specs.declared.replying.ConnEnd.{ConnEnd}
+use Rattle.wire.specs.declared.replying.ConnEnd.TheVariants.{Replied, LinkFault}
+use Rattle.wire.specs.declared.refusal.Refusal.{Refusal}
+use Rattle.wire.specs.declared.refusal.Refusal.TheVariants.{TooLarge, BadRequest, NotFound, MethodNotAllowed, SourceFailed, NoMemory}
 use Rattle.source_node.proofs.PageLaws.{quiet_same, quiet_then, quiet_rows}
 
 -- calls that were answered count no trouble
@@ -98,13 +100,6 @@ no_memory name method target is = by_method (bytes_eq method (codes "GET")) is
     by_method true e = by_target (parts_of target) e
     by_method false e = absurd cc
 
--- a reply that is sent, by equal figures
-pub sends_as : (held held_now : Option (List ℕ)) (faults faults_now status said : ℕ) (body text : Option (List ℕ)) (end : ConnEnd) → status ≡ said → body ≡ text
-    → Sends held held_now faults faults_now status (reply_text status Text body) end → Sends held held_now faults faults_now said (reply_text said Text text) end
-sends_as held held_now faults faults_now status said body text end one two sends =
-    subst (λ n. Sends held held_now faults faults_now n (reply_text n Text text) end) one
-    (subst (λ (b : Option (List ℕ)). Sends held held_now faults faults_now status (reply_text status Text b) end) two sends)
-
 -- what a head asks is served
 pub serves_asked : (name method target : List ℕ) (version : Option ℕ) (before now : Seen) (asked : Asked) (answer : Result (List ℕ) Refusal)
     → Ok asked ≡ asked_of name method target → HasCount asked → Serving version asked before now answer → Serves name version method target before now answer
@@ -145,19 +140,6 @@ replied name version visit held faults heard answer end reads quiet same_held sa
     served_ends name version visit end record { heard = heard; answer = answer; reads = reads; quiet = quiet; serves = serves }
     (subst (λ (h : Option (List ℕ)). Sends h visit.held_now visit.write_faults visit.write_faults_now (status_in answer) (reply_of (asks_head heard) answer) end) same_held
     (subst (λ n. Sends held visit.held_now n visit.write_faults_now (status_in answer) (reply_of (asks_head heard) answer) end) same_faults sends))
-
--- a request whose head wasn't read is refused where no read failed, and else one failed
-pub refused_quiet : (before mid : ℕ) (fault : WireFault) (why : Refusal) → refusal_of fault ≡ Some why → Counted {T = Head} before mid (Err fault) → mid ≡ before
-refused_quiet before mid heard.LinkFault why is counts = absurd cc
-refused_quiet before mid heard.BadMessage why is counts = counts
-refused_quiet before mid (heard.TooLong limit) why is counts = counts
-refused_quiet before mid heard.Memory why is counts = counts
-
-pub unrefused_rose : (before mid : ℕ) (fault : WireFault) → refusal_of fault ≡ None → Counted {T = Head} before mid (Err fault) → Rose before mid
-unrefused_rose before mid heard.LinkFault is counts = counts
-unrefused_rose before mid heard.BadMessage is counts = absurd cc
-unrefused_rose before mid (heard.TooLong limit) is counts = absurd cc
-unrefused_rose before mid heard.Memory is counts = absurd cc
 
 -- a request that was refused, since its head wasn't read
 pub unheard : (name : List ℕ) (version : Option ℕ) (visit : Visit) (held : Option (List ℕ)) (faults mid : ℕ) (fault : WireFault) (why : Refusal) (end : ConnEnd)

@@ -9,7 +9,7 @@ use Rattle.wire.specs.Sparing.{HoldsRequest, ReadsSparingly}
 use Rattle.wire.proofs.SparingLaws.{sparing_fresh}
 use Rattle.source_node.specs.Connections.{Ends}
 use Rattle.source_node.specs.Serving.{Seen}
-use Rattle.source_node.specs.declared.node.ConnEnd.{ConnEnd}
+use Rattle.wire.specs.declared.replying.ConnEnd.{ConnEnd}
 use Rattle.source_node.specs.ServingLinks.{PortAt, visit_of, ServesLink, ServesEach, ClosesAll, turns, ServesLinks, ServedAll, ServesOne, ServesFirst, ServesNext, ServesNone}
 
 -- a link more behind others

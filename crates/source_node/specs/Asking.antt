@@ -11,8 +11,8 @@ use Rattle.source_node.specs.declared.asked.Asked.TheVariants as asked
 use Rattle.source_node.specs.declared.asked.Route.{Route}
 use Rattle.source_node.specs.declared.asked.Route.TheVariants as route
 use Rattle.source_node.specs.declared.asked.Matched.{Matched}
-use Rattle.source_node.specs.declared.refusal.Refusal.{Refusal}
-use Rattle.source_node.specs.declared.refusal.Refusal.TheVariants.{BadRequest, NotFound, MethodNotAllowed, NoMemory}
+use Rattle.wire.specs.declared.refusal.Refusal.{Refusal}
+use Rattle.wire.specs.declared.refusal.Refusal.TheVariants.{BadRequest, NotFound, MethodNotAllowed, NoMemory}
 
 -- a request that is on a route: the call, and the query part
 pub record OnRoute : Type 0 where

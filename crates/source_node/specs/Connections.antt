@@ -14,15 +14,16 @@ use Rattle.source_api.specs.declared.counts.Counts.{Counts}
 use Rattle.source_api.specs.declared.source.Trouble.{Trouble}
 use Rattle.source_api.specs.declared.source.FailKind.TheVariants as kind
 use Rattle.source_api.specs.declared.source.Trouble.TheVariants.{Fail}
-use Rattle.source_node.specs.Refusals.{status_of, body_of, refusal_of, IsRefusedAs}
+use Rattle.wire.specs.Refusals.{status_of, body_of, refusal_of, IsRefusedAs}
+use Rattle.wire.specs.Replies.{asks_head, Sends}
 use Rattle.source_node.specs.Asking.{routed, asked_of, HasCount}
 use Rattle.source_node.specs.Serving.{Seen, Answers, Fails, IsQuiet, text_of}
 use Rattle.source_node.specs.declared.asked.Asked.{Asked}
 use Rattle.source_node.specs.declared.answer.Answer.{Answer}
-use Rattle.source_node.specs.declared.node.ConnEnd.{ConnEnd}
-use Rattle.source_node.specs.declared.node.ConnEnd.TheVariants.{Replied, LinkFault}
-use Rattle.source_node.specs.declared.refusal.Refusal.{Refusal}
-use Rattle.source_node.specs.declared.refusal.Refusal.TheVariants.{SourceFailed, NoMemory}
+use Rattle.wire.specs.declared.replying.ConnEnd.{ConnEnd}
+use Rattle.wire.specs.declared.replying.ConnEnd.TheVariants.{Replied, LinkFault}
+use Rattle.wire.specs.declared.refusal.Refusal.{Refusal}
+use Rattle.wire.specs.declared.refusal.Refusal.TheVariants.{SourceFailed, NoMemory}
 
 -- what stands before and after a connection: the bytes that the link had to give and those that it took, where it tells them, its
 -- counts of faults, and the source
@@ -82,13 +83,8 @@ Serves name version method target before now answer = ServesAsked version (asked
 
 -- how what was heard is served: a head, or what kept it from being read, which is refused without asking the source
 abbrev pub ServesHeard : List ℕ → Option ℕ → Result Head WireFault → Seen → Seen → Result (List ℕ) Refusal → Type 0
-ServesHeard name version (Ok head) before now answer = Serves name version head.method.items head.target.items before now answer
+ServesHeard name version (Ok head) before now answer = Serves name version head.method head.target.items before now answer
 ServesHeard name version (Err fault) before now answer = IsRefusedAs (refusal_of fault) before now answer
-
--- whether the method is HEAD; where no head was read it isn't
-abbrev pub asks_head : Result Head WireFault → Bool
-asks_head (Ok head) = bytes_eq head.method.items (codes "HEAD")
-asks_head (Err why) = false
 
 -- the status of an answer
 abbrev pub status_in : Result (List ℕ) Refusal → ℕ
@@ -107,11 +103,6 @@ pub record IsServed (name : List ℕ) (version : Option ℕ) (visit : Visit) : T
   pub reads : IfSome visit.came (λ bytes. AnswersRequest bytes heard)
   pub quiet : visit.read_faults_now ≡ visit.read_faults
   pub serves : ServesHeard name version heard visit.source visit.source_now answer
-
--- a reply is written whole, with its status, or a front of it and the link failed
-abbrev pub Sends : Option (List ℕ) → Option (List ℕ) → ℕ → ℕ → ℕ → List ℕ → ConnEnd → Type 0
-Sends held held_now faults faults_now status text (Replied said) = (said ≡ status) × Appends held held_now text × (faults_now ≡ faults)
-Sends held held_now faults faults_now status text LinkFault = TookFront held held_now text × Rose faults faults_now
 
 -- nothing was written, and the source wasn't asked
 pub record IsUntouched (visit : Visit) : Type 0 where

@@ -1,5 +1,4 @@
 -- What a node promises.
-pub mod Refusals
 pub mod Asking
 pub mod Serving
 pub mod Connections

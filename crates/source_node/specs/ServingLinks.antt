@@ -7,7 +7,7 @@ use Rattle.tk_io.specs.Links.{Closed, ClosesOne, GivesFirst, HasNone}
 use Rattle.wire.specs.Sparing.{HoldsRequest, WasReadSparingly}
 use Rattle.source_node.specs.Connections.{Ends, Visit}
 use Rattle.source_node.specs.Serving.{Seen}
-use Rattle.source_node.specs.declared.node.ConnEnd.{ConnEnd}
+use Rattle.wire.specs.declared.replying.ConnEnd.{ConnEnd}
 use Rattle.source_node.specs.declared.serving.Served.{Served}
 use Rattle.source_node.specs.declared.serving.Served.TheVariants.{Ended, PortFault}
 

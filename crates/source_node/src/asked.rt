@@ -4,11 +4,10 @@ ghost use Rattle.std.specs.Prelude.{◌≡◌, option_map, Ok, IfOk, IfSome};
 ghost use Rattle.std.specs.Result.{result_map_both};
 ghost use Rattle.source_node.specs.Asking.{routed, route_of, call_in, call_of, asked_by, page_asked, grade_asked, shown, AsksFor, AsksAt, HasCount};
 
-use super::Refusal;
 use limits::{MAX_PAGE, Memory};
 use line_text::rest_after;
 use std::alloc::Global;
-use wire::{Head, number_in, read_target};
+use wire::{Head, Refusal, number_in, read_target};
 
 /// What a request asks of a list.
 #[derive(Clone, Copy, Debug, PartialEq, Eq)]
@@ -44,14 +43,10 @@ pub(crate) struct Matched<'t> {
 /// 0 to 2^32 - 1, `count` is from 1 to 10,000; of several pairs with one name the first counts, and other
 /// names are free. Only a query part takes memory to read.
 pub fn asked_of(alloc: Global, name: &str, head: &Head) -> Result<Asked, Refusal>
-    ensures asks { AsksFor name.now head.now.method.items head.now.target.items result }
+    ensures asks { AsksFor name.now head.now.method head.now.target.items result }
     ensures count { IfOk result HasCount }
 {
-    match routed(
-        name.as_bytes(),
-        head.method.as_slice(),
-        head.target.as_slice(),
-    ) {
+    match routed(name.as_bytes(), head) {
         Ok(matched) => asked_at(alloc, matched),
         Err(why) => Err(why),
     }
@@ -70,13 +65,13 @@ fn asked_at(alloc: Global, matched: Matched<'_>) -> Result<Asked, Refusal>
 }
 
 /// The route of a request, by its method and its target.
-fn routed<'t>(name: &[u8], method: &[u8], target: &'t [u8]) -> Result<Matched<'t>, Refusal>
-    ensures { result_map_both shown (λ why. why) result ≡ routed name.now method.now target.now }
+fn routed<'t>(name: &[u8], head: &'t Head) -> Result<Matched<'t>, Refusal>
+    ensures { result_map_both shown (λ why. why) result ≡ routed name.now head.now.method head.now.target.items }
 {
-    if method != b"GET".as_slice() {
+    if !head.is_get() {
         return Err(Refusal::MethodNotAllowed);
     }
-    let Some(target) = read_target(target) else {
+    let Some(target) = read_target(head.target.as_slice()) else {
         return Err(Refusal::BadRequest);
     };
     let Some(route) = route_of(name, target.path) else {

@@ -8,12 +8,10 @@ mod answer;
 mod asked;
 mod laws;
 mod node;
-mod refusal;
 mod serving;
 
 pub use answer::Answer;
 pub use asked::{Asked, asked_of};
 pub use laws::{a_body_says_its_answer, an_answer_is_read};
-pub use node::{ConnEnd, node_conn};
-pub use refusal::{Refusal, refusal_of};
+pub use node::node_conn;
 pub use serving::{Served, serve_links};

@@ -1,33 +1,21 @@
 //! One connection of a node.
 
-ghost use Rattle.std.specs.Prelude.{◌≡◌, [], true, codes, Ok, Err, option_copied};
-ghost use Rattle.std.specs.Str.{bytes_eq};
+ghost use Rattle.std.specs.Prelude.{◌≡◌, [], Ok, Err};
 ghost use Rattle.std.specs.Option.{unwrap_or};
 ghost use Rattle.std.specs.Result.{result_map_both};
 ghost use Rattle.wire.specs.Sparing.{HoldsRequest, ReadsSparingly};
-ghost use Rattle.wire.specs.Writing.{has_reason, reply_text};
 ghost use Rattle.source_api.specs.Counting.{NoneFell};
 ghost use Rattle.source_node.specs.Asking.{HasCount};
-ghost use Rattle.source_node.specs.Refusals.{status_of, body_of};
 ghost use Rattle.source_node.specs.Serving.{seen};
-ghost use Rattle.source_node.specs.Connections.{Ends, Serves, Serving, Sends, IsRepliedTo};
+ghost use Rattle.source_node.specs.Connections.{Ends, Serves, Serving, IsRepliedTo};
 
 use super::answer::{ask, write_answer};
-use super::{Asked, Refusal, asked_of, refusal_of};
+use super::{Asked, asked_of};
+use http::StatusCode;
 use source_api::{FailKind, Source, Trouble};
 use std::alloc::Global;
 use tk_io::Link;
-use wire::{Head, Kind, read_request, write_reply};
-
-/// How a connection ended.
-#[derive(Clone, Copy, Debug, PartialEq, Eq)]
-pub enum ConnEnd {
-    /// The whole reply was written, with this status: 503 where no memory was left while the request was read or the answer was made.
-    Replied { status: u16 },
-    /// A read or a write of the link failed, and its count has gone up. A front of the reply may have been
-    /// written.
-    LinkFault,
-}
+use wire::{ConnEnd, Head, Kind, Refusal, read_request, refusal_of, refuse, send};
 
 /// Serves one request on the list of this name, and writes one reply. The request's body isn't read, and once its whole head has come
 /// no read is made.
@@ -95,26 +83,19 @@ fn answer_head<S: Source, L: Link>(
     ensures later { NoneFell (S.counts source.old) (S.counts source.new) }
     ensures apart { L.Sink.aside link.new ≡ L.Sink.aside link.old }
     ensures incoming { (L.left link.new ≡ L.left link.old) × (L.Intake.faults link.new ≡ L.Intake.faults link.old) × (L.Intake.pieces link.new ≡ L.Intake.pieces link.old) }
-    ensures replied { IsRepliedTo name.now version head.now.method.items head.now.target.items
+    ensures replied { IsRepliedTo name.now version head.now.method head.now.target.items
         (seen (S.list source.old) (S.counts source.old) (S.calls source.old) (S.at_hand source.old) (S.states source.old))
         (seen (S.list source.new) (S.counts source.new) (S.calls source.new) (S.at_hand source.new) (S.states source.new))
         (L.held link.old) (L.held link.new) (L.Sink.faults link.old) (L.Sink.faults link.new) result }
 {
     match serve(alloc, name, version, source, head) {
         Ok(body) => {
-            let end = send(link, 200, Kind::Json, Some(body.as_slice()));
+            let end = send(link, StatusCode::OK, Kind::Json, Some(body.as_slice()));
             drop(body);
             end
         }
-        Err(why) => refuse(link, why, is_head(head)),
+        Err(why) => refuse(link, why, head.is_head()),
     }
-}
-
-/// Whether the method is HEAD.
-fn is_head(head: &Head) -> bool
-    ensures { result ≡ bytes_eq head.now.method.items (codes "HEAD") }
-{
-    head.method.as_slice() == b"HEAD".as_slice()
 }
 
 /// The body of the answer to a request with this head.
@@ -128,7 +109,7 @@ fn serve<S: Source>(
     ensures list { S.list source.new ≡ S.list source.old }
     ensures states { S.states source.new ≡ S.states source.old }
     ensures later { NoneFell (S.counts source.old) (S.counts source.new) }
-    ensures serves { Serves name.now version head.now.method.items head.now.target.items
+    ensures serves { Serves name.now version head.now.method head.now.target.items
         (seen (S.list source.old) (S.counts source.old) (S.calls source.old) (S.at_hand source.old) (S.states source.old))
         (seen (S.list source.new) (S.counts source.new) (S.calls source.new) (S.at_hand source.new) (S.states source.new))
         (result_map_both (λ body. body.items) (λ why. why) result) }
@@ -175,28 +156,4 @@ fn stated_version(told: Option<u64>, at_hand: u64) -> u64
     ensures { result ≡ unwrap_or told at_hand }
 {
     told.unwrap_or(at_hand)
-}
-
-/// Writes the reply of a refusal, which has no body where the method is HEAD.
-fn refuse<L: Link>(link: &mut L, why: Refusal, is_head: bool) -> ConnEnd
-    ensures apart { L.Sink.aside link.new ≡ L.Sink.aside link.old }
-    ensures incoming { (L.left link.new ≡ L.left link.old) × (L.Intake.faults link.new ≡ L.Intake.faults link.old) × (L.Intake.pieces link.new ≡ L.Intake.pieces link.old) }
-    ensures sends { Sends (L.held link.old) (L.held link.new) (L.Sink.faults link.old) (L.Sink.faults link.new)
-        (status_of why) (reply_text (status_of why) Kind.Text (body_of is_head why)) result }
-{
-    send(link, why.status(), Kind::Text, why.body(is_head))
-}
-
-/// Writes a reply.
-fn send<L: Link>(link: &mut L, status: u16, kind: Kind, body: Option<&[u8]>) -> ConnEnd
-    requires { has_reason status ≡ true }
-    ensures apart { L.Sink.aside link.new ≡ L.Sink.aside link.old }
-    ensures incoming { (L.left link.new ≡ L.left link.old) × (L.Intake.faults link.new ≡ L.Intake.faults link.old) × (L.Intake.pieces link.new ≡ L.Intake.pieces link.old) }
-    ensures sends { Sends (L.held link.old) (L.held link.new) (L.Sink.faults link.old) (L.Sink.faults link.new)
-        status (reply_text status kind (option_copied body.entry)) result }
-{
-    match write_reply(link, status, kind, body) {
-        Ok(()) => ConnEnd::Replied { status },
-        Err(_) => ConnEnd::LinkFault,
-    }
 }

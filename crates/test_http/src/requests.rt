@@ -22,7 +22,7 @@ const ROOT: Asks = Asks::For(b"GET", b"/");
 fn is_answer(answer: &Result<Head, WireFault>, asks: Asks) -> bool {
     match (answer, asks) {
         (Ok(head), Asks::For(method, target)) => {
-            head.method.as_slice() == method && head.target.as_slice() == target
+            head.method.as_str().as_bytes() == method && head.target.as_slice() == target
         }
         (Err(WireFault::BadMessage), Asks::Bad | Asks::BadOrLong(_)) => true,
         (Err(WireFault::TooLong { limit }), Asks::Long(least) | Asks::BadOrLong(least)) => {

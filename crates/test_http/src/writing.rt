@@ -1,6 +1,7 @@
 //! Requests and replies, to the byte.
 
 use super::{Parts, holds, joined, none_is_wrong};
+use http::StatusCode;
 use std::alloc::Global;
 use tk_io::MemLink;
 use wire::{Kind, Place, WireFault, write_reply, write_request};
@@ -234,7 +235,7 @@ static REPLIES: &[Written] = &[
     ),
 ];
 
-/// Writes a reply, if its status has a reason.
+/// Writes a reply of the status with this number.
 pub(crate) fn reply(
     link: &mut MemLink,
     status: u16,
@@ -242,9 +243,9 @@ pub(crate) fn reply(
     body: Option<&[u8]>,
 ) -> Result<(), WireFault> {
     let kind = if is_json { Kind::Json } else { Kind::Text };
-    match status {
-        200 | 400 | 404 | 405 | 431 | 500 | 503 => write_reply(link, status, kind, body),
-        _ => Err(WireFault::BadMessage),
+    match StatusCode::from_u16(status) {
+        Ok(status) => write_reply(link, status, kind, body),
+        Err(_) => Err(WireFault::BadMessage),
     }
 }
 

@@ -2,11 +2,12 @@
 
 use super::node_visits::{A, FAILED, OK, comes_to};
 use super::{holds, none_is_wrong};
-use source_node::{ConnEnd, node_conn};
+use source_node::node_conn;
 use std::alloc::Global;
 use test_mem_source::visits::{CLOSE, Parts, joined};
 use test_mem_source::{Held, Kind, source_of};
 use tk_io::MemLink;
+use wire::ConnEnd;
 
 /// The calls for a page, in one page and to the end of the list, and for a grade.
 const PAGE: Parts = &[b"GET /lists/A/page?from=0&count=3 HTTP/1.1\r\nHost: h\r\n\r\n"];

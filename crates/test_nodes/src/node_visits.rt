@@ -1,10 +1,11 @@
 //! Requests to a node of the list A over a link in memory, and their replies.
 
-use source_node::{ConnEnd, node_conn};
+use source_node::node_conn;
 use std::alloc::Global;
 use test_mem_source::visits::{CLOSE, PLAIN, Parts, joined, link_of, status_in};
 use test_mem_source::{Held, Kind, MemSource, source_of};
 use tk_io::MemLink;
+use wire::ConnEnd;
 
 /// The rows of the list A, at version 0.
 pub(crate) const A: Held = Held {

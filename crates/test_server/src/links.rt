@@ -2,11 +2,11 @@
 
 use super::holds;
 use super::server_visits::serve_link;
-use server_conn::ConnEnd;
 use std::alloc::Global;
 use std::sync::Wait;
 use std::thread::Threads;
 use test_mem_source::visits::{Parts, link_of};
+use wire::ConnEnd;
 
 /// A request that gets a reply.
 const REQUEST: Parts = &[b"GET /top?q= HTTP/1.1\r\nHost: h\r\n\r\n"];

@@ -5,7 +5,7 @@ ghost use Rattle.server_conn.specs.Entries.{MayAnswer};
 
 use super::desk::{open_lists, opened_may_answer};
 use fetcher::Stop;
-use server_conn::{Answers, ConnEnd, Opened, Turn, serve_conn};
+use server_conn::{Answers, Opened, Turn, serve_conn};
 use source_pool::{Feeder, Pool, PoolPass};
 use std::alloc::Global;
 use std::sync::Wait;
@@ -14,6 +14,7 @@ use test_mem_source::visits::{CLOSE, Parts, joined, link_of, status_in};
 use test_mem_source::{Held, Kind, MemSource, source_of};
 use test_query_support::{Pair, fetch_both_till_set};
 use tk_io::MemLink;
+use wire::ConnEnd;
 
 /// Two lists of three objects.
 const A: Held = Held {

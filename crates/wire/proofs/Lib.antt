@@ -3,6 +3,7 @@ pub mod ChunkLaws
 mod FindLaws
 pub mod OnlyLaws
 mod PartLaws
+pub mod RefusalLaws
 mod ReplyLaws
 pub mod SparingLaws
 mod StepLaws

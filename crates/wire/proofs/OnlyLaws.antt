@@ -18,7 +18,7 @@ use Rattle.wire.proofs.ChunkLaws.{same_front, rest_of, chunked_parts, behind_las
 -- ---- requests
 
 pub request_only : (bytes : List ℕ) (one other : Head) → IsRequest bytes one → IsRequest bytes other
-    → (one.method.items ≡ other.method.items) × (one.target.items ≡ other.target.items)
+    → (one.method ≡ other.method) × (one.target.items ≡ other.target.items)
 request_only bytes one other a b =
     let same = (request_unique bytes a.text b.text a.rest b.rest a.reads b.reads).0 in (
       a.method ∙ ap (λ (t : RequestHead). t.method) same ∙ sym b.method,

@@ -31,7 +31,7 @@ host_tried (Some bytes) (Some rest) asked (Ok head) took kept broken = record {
   reads = (took.2, took.3);
   short = took.1.short;
   host = sym took.1.host ∙ kept.0;
-  method = ap (λ (h : Head). h.method.items) kept.1 ∙ took.1.method;
+  method = ap (λ (h : Head). h.method) kept.1 ∙ took.1.method;
   target = ap (λ (h : Head). h.target.items) kept.1 ∙ took.1.target;
 }
 host_tried (Some bytes) (Some rest) asked (Err LinkFault) took kept broken = tt

@@ -15,6 +15,6 @@ name_bytes ContentLength = codes "content-length"
 -- what was read is within its limits, has the method and the target, and says whether the rule on Host lines is kept
 pub record SaysRequest (text : RequestHead) (asked : Asked) : Type 0 where
   pub short : IsShortRequest text
-  pub method : asked.head.method.items ≡ text.method
+  pub method : asked.head.method ≡ text.method
   pub target : asked.head.target.items ≡ text.target
   pub host : asked.has_host ≡ has_host text

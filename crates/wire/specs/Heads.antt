@@ -54,7 +54,7 @@ pub record IsRequest (bytes : List ℕ) (head : Head) : Type 0 where
   pub reads : ReadsRequest bytes text rest
   pub short : IsShortRequest text
   pub host : has_host text ≡ true
-  pub method : head.method.items ≡ text.method
+  pub method : head.method ≡ text.method
   pub target : head.target.items ≡ text.target
 
 -- no request's head that keeps the rule on Host lines stands at the front

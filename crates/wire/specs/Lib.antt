@@ -3,6 +3,8 @@ pub mod Asking
 pub mod Bodies
 pub mod Heads
 pub mod Parts
+pub mod Refusals
+pub mod Replies
 pub mod Responses
 pub mod Sparing
 pub mod Steps

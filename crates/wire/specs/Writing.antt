@@ -1,6 +1,7 @@
 -- The requests and the replies that are written.
-use Rattle.std.specs.Prelude.{ℕ, Bool, List, [], ◌∷◌, ◌++◌, length, codes, decimal, if◌then◌else◌, ◌==◌, Option, Some, None, string_bytes}
-use Rattle.std.specs.List.{flat_map, list_any}
+use Rattle.std.specs.Prelude.{ℕ, List, [], ◌∷◌, ◌++◌, length, codes, decimal, if◌then◌else◌, ◌==◌, Option, Some, None, string_bytes, unwrap_or}
+use Rattle.std.specs.List.{flat_map}
+use Rattle.http.specs.StatusCode.{reason_phrase}
 use Rattle.httparse.specs.Ascii.{crlf_bytes}
 use Rattle.wire.specs.declared.writing.Kind.{Kind}
 use Rattle.wire.specs.declared.writing.Kind.TheVariants.{Text, Json}
@@ -21,20 +22,9 @@ asking_text host port path tail =
 abbrev pub request_text : Place → List ℕ → List ℕ
 request_text place tail = asking_text (string_bytes place.host) place.port (string_bytes place.path) tail
 
--- the statuses of the replies that are written
-abbrev pub has_reason : ℕ → Bool
-has_reason status = list_any (λ known. known == status) (200 ∷ 400 ∷ 404 ∷ 405 ∷ 431 ∷ 500 ∷ 503 ∷ [])
-
--- the reason of a status
+-- the reason of a status, which is empty where it has none
 abbrev pub reason_of : ℕ → List ℕ
-reason_of status =
-    if status == 200 then codes "OK"
-    else if status == 400 then codes "Bad Request"
-    else if status == 404 then codes "Not Found"
-    else if status == 405 then codes "Method Not Allowed"
-    else if status == 431 then codes "Request Header Fields Too Large"
-    else if status == 500 then codes "Internal Server Error"
-    else codes "Service Unavailable"
+reason_of status = unwrap_or (reason_phrase status) []
 
 -- the type of a body
 abbrev pub type_of : Kind → List ℕ

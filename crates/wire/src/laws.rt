@@ -11,7 +11,7 @@ ghost use Rattle.wire.specs.declared.response.Reply.{Reply};
 /// Bytes that are a request within the limits are no other request, aren't none, and pass no limit.
 pub fn a_request_is_the_only_answer()
     ensures only { (bytes : List ℕ) (one other : Head) → IsRequest bytes one → IsRequest bytes other
-        → (one.method.items ≡ other.method.items) × (one.target.items ≡ other.target.items) }
+        → (one.method ≡ other.method) × (one.target.items ≡ other.target.items) }
     ensures whole { (bytes : List ℕ) (head : Head) → IsRequest bytes head → IsNoRequest bytes → ⊥ }
     ensures short { (bytes : List ℕ) (head : Head) (limit : ℕ) → IsRequest bytes head → PassesRequest limit bytes → ⊥ }
 {}

@@ -1,4 +1,5 @@
-//! The text of HTTP/1.1: requests and responses over links, one message in each direction, and what a request's target names.
+//! The text of HTTP/1.1: requests and responses over links, one message in each direction, what a request's target names, and what both a node
+//! and a query server reply.
 //!
 //! The heads and the lines of chunks are those of the grammar of `httparse` (RFC 9112), the framing of a body is that of RFC 9112, section 6.3.
 //! A target stands in origin form, as `/lists/A/size`, or in absolute form, as `http://host/lists/A/size` (RFC 9112, section 3.2); its query
@@ -13,6 +14,8 @@ mod laws;
 mod lines;
 mod part;
 mod query;
+mod refusal;
+mod replying;
 mod request;
 mod response;
 mod target;
@@ -23,6 +26,8 @@ pub use framing::Framing;
 pub use laws::{a_reply_is_the_only_answer, a_request_is_the_only_answer};
 pub use limits::Memory;
 pub use query::{number_in, value_in};
+pub use refusal::{Refusal, refusal_of};
+pub use replying::{ConnEnd, refuse, send};
 pub use request::{Head, read_request};
 pub use response::{Reply, read_response};
 pub use target::{Target, read_target};

@@ -1,6 +1,6 @@
 //! The heads of requests.
 
-ghost use Rattle.std.specs.Prelude.{◌≡◌, ◌≤◌, [], true, false, IfOk, IfErr, IfSome, length};
+ghost use Rattle.std.specs.Prelude.{◌≡◌, ◌≤◌, [], true, false, codes, bytes_eq, IfOk, IfErr, IfSome, length};
 ghost use Rattle.httparse.specs.Grammar.{IsRequestHead, print_request};
 ghost use Rattle.httparse.specs.Spans.{IsRequestWithin, IsRequestOf};
 ghost use Rattle.wire.specs.Asking.{SaysRequest};
@@ -14,19 +14,36 @@ use super::WireFault;
 use super::feed::Feed;
 use super::lines::keeps_host_rule;
 use super::part::{Found, MessagePart, take_part};
+use http::Method;
 use httparse::spans::{EMPTY_HEADER_SPAN, HeaderSpan, RequestSpans, parse_request};
 use httparse::{Error, Status};
 use limits::{MAX_HEAD, MAX_HEADERS};
-use std::alloc::Global;
+use std::alloc::{AllocError, Global};
 use tk_io::Link;
 
 /// The head of a request: its method and its target, as they came.
 #[derive(Drop)]
 pub struct Head {
-    /// The method, a token, as `GET`.
-    pub method: Vec<u8>,
+    /// The method, as `GET`.
+    pub method: Method,
     /// The target, as `/lists/A/size`.
     pub target: Vec<u8>,
+}
+
+impl Head {
+    /// Whether the method is GET.
+    pub fn is_get(&self) -> bool
+        ensures { result ≡ bytes_eq self.now.method (codes "GET") }
+    {
+        self.method == Method::GET
+    }
+
+    /// Whether the method is HEAD.
+    pub fn is_head(&self) -> bool
+        ensures { result ≡ bytes_eq self.now.method (codes "HEAD") }
+    {
+        self.method == Method::HEAD
+    }
 }
 
 /// The head of a request, and whether it keeps the rule on Host lines.
@@ -125,11 +142,21 @@ fn request_of(
         return Err(WireFault::TooLong { limit: MAX_HEAD });
     }
     let has_host = keeps_host_rule(came, &lines[..spans.headers], spans.version);
-    let method = Vec::from_slice(alloc, spans.method.of(came))?;
+    let method = method_of(alloc, spans.method.of(came))?;
     let target = Vec::from_slice(alloc, spans.path.of(came))?;
     let head = Head { method, target };
     Ok(Some(Found {
         len: spans.len,
         part: Asked { head, has_host },
     }))
+}
+
+/// The method that a token names. A long one takes memory.
+fn method_of(alloc: Global, token: &[u8]) -> Result<Method, AllocError>
+    ensures { IfOk result (λ method. method ≡ token.now) }
+{
+    match Method::from_bytes(alloc, token) {
+        Ok(method) => Ok(method),
+        Err(_) => Err(AllocError),
+    }
 }

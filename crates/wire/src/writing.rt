@@ -1,12 +1,14 @@
 //! Requests and replies that are written.
 
-ghost use Rattle.std.specs.Prelude.{◌≡◌, true, map, IfErr, Some, None, option_copied};
+ghost use Rattle.std.specs.Prelude.{◌≡◌, ◌++◌, map, IfErr, Some, None, option_copied};
 ghost use Rattle.tk_io.specs.Pieces.{Puts, Writes};
 ghost use Rattle.wire.specs.Wording.{part_text};
-ghost use Rattle.wire.specs.Writing.{joined, asking_text, request_text, reply_text, reason_of, type_of, allow_line, has_reason};
+ghost use Rattle.wire.specs.Writing.{joined, asking_text, request_text, reply_text, reason_of, type_of, allow_line};
+ghost use Rattle.wire.specs.Refusals.{body_as};
 ghost use Rattle.wire.specs.declared.fault.WireFault.TheVariants.{LinkFault};
 
 use super::WireFault;
+use http::StatusCode;
 use tk_io::{Link, Put, Sink, Writer};
 
 /// Where lists are served: a host, its port, and the path before the calls' names.
@@ -84,31 +86,54 @@ fn write_asked<'t, K: Sink>(
 /// without a line that says its length. After a failure a front of it was written. Takes no memory.
 pub fn write_reply<L: Link>(
     link: &mut L,
-    status: u16,
+    status: StatusCode,
     kind: Kind,
     body: Option<&[u8]>,
 ) -> Result<(), WireFault>
-    requires { has_reason status ≡ true }
     ensures writes { Writes (L.held link.old) (L.held link.new) (L.Sink.faults link.old) (L.Sink.faults link.new) result (reply_text status kind (option_copied body.entry)) }
     ensures fault { IfErr result (λ fault. fault ≡ LinkFault) }
     ensures apart { L.Sink.aside link.new ≡ L.Sink.aside link.old }
     ensures incoming { (L.left link.new ≡ L.left link.old) × (L.Intake.faults link.new ≡ L.Intake.faults link.old) × (L.Intake.pieces link.new ≡ L.Intake.pieces link.old) }
 {
     match body {
-        Some(body) => write_whole(link, status, kind, body),
+        Some(body) => write_whole(link, status, kind, body, b""),
         None => write_head(link, status, kind),
     }
 }
 
-/// Writes the reply of a status with a body.
-fn write_whole<K: Sink>(link: &mut K, status: u16, kind: Kind, body: &[u8]) -> Result<(), WireFault>
-    ensures writes { Writes (K.held link.old) (K.held link.new) (K.faults link.old) (K.faults link.new) result (reply_text status kind (Some body.now)) }
+/// Writes the reply that says the reason of a status in plain text, or to a request with the method HEAD the same without a body. After a
+/// failure a front of it was written. Takes no memory.
+pub(crate) fn write_reason<L: Link>(
+    link: &mut L,
+    status: StatusCode,
+    is_head: bool,
+) -> Result<(), WireFault>
+    ensures writes { Writes (L.held link.old) (L.held link.new) (L.Sink.faults link.old) (L.Sink.faults link.new) result (reply_text status Kind.Text (body_as is_head status)) }
+    ensures fault { IfErr result (λ fault. fault ≡ LinkFault) }
+    ensures apart { L.Sink.aside link.new ≡ L.Sink.aside link.old }
+    ensures incoming { (L.left link.new ≡ L.left link.old) × (L.Intake.faults link.new ≡ L.Intake.faults link.old) × (L.Intake.pieces link.new ≡ L.Intake.pieces link.old) }
+{
+    match is_head {
+        true => write_head(link, status, Kind::Text),
+        false => write_whole(link, status, Kind::Text, reason_of(status), b"\n"),
+    }
+}
+
+/// Writes the reply of a status with a body in two parts.
+fn write_whole<'t, K: Sink>(
+    link: &mut K,
+    status: StatusCode,
+    kind: Kind,
+    body: &'t [u8],
+    end: &'t [u8],
+) -> Result<(), WireFault>
+    ensures writes { Writes (K.held link.old) (K.held link.new) (K.faults link.old) (K.faults link.new) result (reply_text status kind (Some (body.now ++ end.now))) }
     ensures fault { IfErr result (λ fault. fault ≡ LinkFault) }
     ensures apart { K.aside link.new ≡ K.aside link.old }
 {
     let parts = [
         Part::Text(b"HTTP/1.1 "),
-        Part::Number(status as u64),
+        Part::Number(status.as_u16() as u64),
         Part::Text(b" "),
         Part::Text(reason_of(status)),
         Part::Text(b"\r\n"),
@@ -117,25 +142,26 @@ fn write_whole<K: Sink>(link: &mut K, status: u16, kind: Kind, body: &[u8]) -> R
         Part::Text(b"\r\n"),
         Part::Text(allow_line(status)),
         Part::Text(b"Content-Length: "),
-        Part::Number(body.len() as u64),
+        Part::Number((body.len() + end.len()) as u64),
         Part::Text(b"\r\n"),
         Part::Text(b"Connection: close"),
         Part::Text(b"\r\n"),
         Part::Text(b"\r\n"),
         Part::Text(body),
+        Part::Text(end),
     ];
     write_parts(link, &parts)
 }
 
 /// Writes the reply of a status without a body.
-fn write_head<K: Sink>(link: &mut K, status: u16, kind: Kind) -> Result<(), WireFault>
+fn write_head<K: Sink>(link: &mut K, status: StatusCode, kind: Kind) -> Result<(), WireFault>
     ensures writes { Writes (K.held link.old) (K.held link.new) (K.faults link.old) (K.faults link.new) result (reply_text status kind None) }
     ensures fault { IfErr result (λ fault. fault ≡ LinkFault) }
     ensures apart { K.aside link.new ≡ K.aside link.old }
 {
     let parts = [
         Part::Text(b"HTTP/1.1 "),
-        Part::Number(status as u64),
+        Part::Number(status.as_u16() as u64),
         Part::Text(b" "),
         Part::Text(reason_of(status)),
         Part::Text(b"\r\n"),
@@ -150,18 +176,13 @@ fn write_head<K: Sink>(link: &mut K, status: u16, kind: Kind) -> Result<(), Wire
     write_parts(link, &parts)
 }
 
-/// The reason of a status.
-fn reason_of(status: u16) -> &'static [u8]
+/// The reason of a status, which is empty where it has none.
+fn reason_of(status: StatusCode) -> &'static [u8]
     ensures { result.now ≡ reason_of status }
 {
-    match status {
-        200 => b"OK",
-        400 => b"Bad Request",
-        404 => b"Not Found",
-        405 => b"Method Not Allowed",
-        431 => b"Request Header Fields Too Large",
-        500 => b"Internal Server Error",
-        _ => b"Service Unavailable",
+    match status.canonical_reason() {
+        Some(reason) => reason.as_bytes(),
+        None => b"",
     }
 }
 
@@ -176,10 +197,10 @@ fn type_of(kind: Kind) -> &'static [u8]
 }
 
 /// The line that says which method is allowed, with status 405 alone.
-fn allow_line(status: u16) -> &'static [u8]
+fn allow_line(status: StatusCode) -> &'static [u8]
     ensures { result.now ≡ allow_line status }
 {
-    if status == 405 {
+    if status == StatusCode::METHOD_NOT_ALLOWED {
         b"Allow: GET\r\n"
     } else {
         b""

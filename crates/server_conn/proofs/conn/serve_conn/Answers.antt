@@ -2,7 +2,7 @@ use Rattle.std.proofs.Common.{Ok, refl, sym, ◌∙◌}
 use Rattle.server_conn.specs.Entries.{view_in}
 use Rattle.server_conn.specs.Connections.{Visit}
 use Rattle.query_run.proofs.KnowsLaws.{knows_same}
-use Rattle.source_node.proofs.EndLaws.{unrefused_rose}
+use Rattle.wire.proofs.RefusalLaws.{unrefused_rose}
 use Rattle.server_conn.proofs.EndLaws.{replied, unheard, unread}
 use Rattle.server_conn.proofs.conn.serve_conn.Goals as goal
 

@@ -7,4 +7,4 @@ pub returns-in-Err-clause-asks : goal.returns-in-Err-clause-asks
 returns-in-Err-clause-asks c =
     let name = c.args.name.now in
     let head = c.args.head.now in
-    asks_refused (routed name head.method.items head.target.items) c.in-Err.why (search rules) (no_memory name head.method.items head.target.items)
+    asks_refused (routed name head.method head.target.items) c.in-Err.why (search rules) (no_memory name head.method head.target.items)

@@ -3,8 +3,8 @@ use Rattle.std.specs.Prelude.{◌≡◌, ℕ, Bool, List, [], ◌∷◌, ◌++�
 use Rattle.wire.specs.Writing.{reason_of}
 use Rattle.wire.specs.declared.fault.WireFault.{WireFault}
 use Rattle.wire.specs.declared.fault.WireFault.TheVariants as heard
-use Rattle.source_node.specs.declared.refusal.Refusal.{Refusal}
-use Rattle.source_node.specs.declared.refusal.Refusal.TheVariants.{TooLarge, BadRequest, NotFound, MethodNotAllowed, SourceFailed, NoMemory}
+use Rattle.wire.specs.declared.refusal.Refusal.{Refusal}
+use Rattle.wire.specs.declared.refusal.Refusal.TheVariants.{TooLarge, BadRequest, NotFound, MethodNotAllowed, SourceFailed, NoMemory}
 
 -- the status of a refusal
 abbrev pub status_of : Refusal → ℕ
@@ -15,9 +15,13 @@ status_of MethodNotAllowed = 405
 status_of SourceFailed = 500
 status_of NoMemory = 503
 
--- the body of a refusal: the reason and LF, and none in a reply to the method HEAD
+-- the body that says the reason of a status: the reason and LF, and none in a reply to the method HEAD
+abbrev pub body_as : Bool → ℕ → Option (List ℕ)
+body_as is_head status = if is_head then None else Some (reason_of status ++ 10 ∷ [])
+
+-- the body of a refusal
 abbrev pub body_of : Bool → Refusal → Option (List ℕ)
-body_of is_head why = if is_head then None else Some (reason_of (status_of why) ++ 10 ∷ [])
+body_of is_head why = body_as is_head (status_of why)
 
 -- why a request is refused whose head wasn't read: the bytes are none, or pass a limit, or no memory was left. One whose link failed isn't refused
 abbrev pub refusal_of : WireFault → Option Refusal
