@@ -15,11 +15,12 @@ use catalog_run::refuse;
 use catalog_text::{Catalog, read_catalog};
 use command_words::NodeOptions;
 use source_api::{FailKind, Shelf, Trouble};
+use source_node::ListRoutes;
 use std::alloc::Global;
 use tk_io::{Port, Sink};
 
 /// Serves one list of a catalog at a port: the list of the options' name, of the catalog at their place. The catalog's text is asked of the
-/// shelf first, then the source of the list is taken, then the port listens, and its links are served one after another. The source is put
+/// shelf first, then the routes of the list are made, then its source is taken, then the port listens, and its links are served one after another. The source is put
 /// back however the call ends. The input isn't asked for anything. The call may wait for ever.
 ///
 /// - `Done`: so many links were served as the options say, or all that came before the port ended, and `served COUNT` was written. What each
@@ -84,7 +85,14 @@ fn node_in<H: Shelf, K: Sink, P: Port>(
         (ports_of P.links P.closed P.faults P.calls (port.old, port.new)) result }
 {
     match place_named(catalog, options.name.as_str()) {
-        Some(place) => serve_place(alloc, place, options, shelf, out, port),
+        Some(place) => match ListRoutes::make(alloc, options.name.as_str()) {
+            Ok(routes) => {
+                let status = serve_place(alloc, &routes, place, options, shelf, out, port);
+                drop(routes);
+                status
+            }
+            Err(_) => Status::Memory,
+        },
         None => refuse_name(out, options.name.as_str()),
     }
 }

@@ -11,19 +11,21 @@ use super::said::end_served;
 use call_ends::Status;
 use command_words::NodeOptions;
 use source_api::{FailKind, Shelf, Source, Trouble};
-use source_node::{Served, serve_links};
+use source_node::{ListRoutes, Served, serve_links};
 use std::alloc::Global;
 use tk_io::{Port, Sink};
 
-/// Serves the list of this place at the port. Its source is taken of the shelf first, and put back however the call ends.
+/// Serves the list of this place at the port, by the routes of its name. Its source is taken of the shelf first, and put back however the call ends.
 pub(crate) fn serve_place<H: Shelf, K: Sink, P: Port>(
     alloc: Global,
+    routes: &ListRoutes,
     place: &str,
     options: &NodeOptions,
     shelf: &mut H,
     out: &mut K,
     port: &mut P,
 ) -> Status
+    requires { routes.now ≡ options.now.name }
     ensures writes { K.faults out.old ≤ K.faults out.new }
     ensures ends { (words : List (List ℕ)) (input : Input) → EndsAtPlace options.now place.now
         (call_at words (outside_of input (output_as K.held K.faults out.old) (shelf_as H.texts H.lists H.versions H.at shelf.old))
@@ -32,7 +34,7 @@ pub(crate) fn serve_place<H: Shelf, K: Sink, P: Port>(
 {
     match shelf.take(alloc, place) {
         Ok(mut source) => {
-            let served = serve_source(alloc, options, &mut source, port);
+            let served = serve_source(alloc, routes, options, &mut source, port);
             shelf.put_back(place, source);
             end_served(out, served)
         }
@@ -46,10 +48,12 @@ pub(crate) fn serve_place<H: Shelf, K: Sink, P: Port>(
 /// Listens at the port, and serves the list of a source to its links.
 fn serve_source<S: Source, P: Port>(
     alloc: Global,
+    routes: &ListRoutes,
     options: &NodeOptions,
     source: &mut S,
     port: &mut P,
 ) -> Served
+    requires { routes.now ≡ options.now.name }
     ensures list { S.list source.new ≡ S.list source.old }
     ensures states { S.states source.new ≡ S.states source.old }
     ensures later { NoneFell (S.counts source.old) (S.counts source.new) }
@@ -61,7 +65,7 @@ fn serve_source<S: Source, P: Port>(
     match port.listen(options.listening.at) {
         Ok(()) => serve_links(
             alloc,
-            options.name.as_str(),
+            routes,
             options.version,
             options.listening.conns,
             source,

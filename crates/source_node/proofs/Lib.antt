@@ -1,4 +1,3 @@
-pub mod RouteLaws
 pub mod PageLaws
 pub mod EndLaws
 pub mod ReplyBack

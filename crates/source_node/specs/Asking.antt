@@ -1,7 +1,6 @@
 -- What the head of a request asks of a list.
 use Rattle.std.specs.Prelude.{◌≡◌, ◌≤◌, ℕ, List, ◌++◌, codes, if◌then◌else◌, Option, Some, None, option_map, Result, Ok, Err, IsOk, ⊤}
-use Rattle.std.specs.Option.{ok_or, option_and_then}
-use Rattle.line_text.specs.Cuts.{rest_after}
+use Rattle.std.specs.Option.{ok_or}
 use Rattle.std.specs.Str.{bytes_eq}
 use Rattle.limits.specs.declared.TheConstants.{MAX_PAGE}
 use Rattle.wire.specs.Targets.{Parts, parts_of}
@@ -33,18 +32,6 @@ route_of name path =
     if bytes_eq path (path_to name (codes "/size")) then Some route.Size
     else if bytes_eq path (path_to name (codes "/page")) then Some route.Page
     else if bytes_eq path (path_to name (codes "/grade")) then Some route.Grade
-    else None
-
--- what follows the list's name in a path
-abbrev pub call_in : List ℕ → List ℕ → Option (List ℕ)
-call_in name path = option_and_then (rest_after name) (rest_after (codes "/lists/") path)
-
--- the route that is spelled so behind the name
-abbrev pub call_of : List ℕ → Option Route
-call_of call =
-    if bytes_eq call (codes "/size") then Some route.Size
-    else if bytes_eq call (codes "/page") then Some route.Page
-    else if bytes_eq call (codes "/grade") then Some route.Grade
     else None
 
 -- the route of a path with its query part

@@ -1,11 +1,11 @@
 //! What a request asks of a list.
 
-ghost use Rattle.std.specs.Prelude.{◌≡◌, option_map, Ok, IfOk, IfSome};
+ghost use Rattle.std.specs.Prelude.{◌≡◌, Ok, IfOk, IfSome};
 ghost use Rattle.std.specs.Result.{result_map_both};
-ghost use Rattle.source_node.specs.Asking.{routed, route_of, call_in, call_of, asked_by, page_asked, grade_asked, shown, AsksFor, AsksAt, HasCount};
+ghost use Rattle.source_node.specs.Asking.{routed, asked_by, page_asked, grade_asked, shown, AsksFor, AsksAt, HasCount};
 
+use super::ListRoutes;
 use limits::{MAX_PAGE, Memory};
-use line_text::rest_after;
 use std::alloc::Global;
 use wire::{Head, Refusal, number_in, read_target};
 
@@ -35,18 +35,18 @@ pub(crate) struct Matched<'t> {
     query: &'t [u8],
 }
 
-/// What the head of a request asks of the list of this name, or why it is refused.
+/// What the head of a request asks of the list of these routes, or why it is refused.
 ///
 /// The first that holds decides: a method other than GET is not allowed; a target that doesn't begin with
 /// `/` is bad, once it is read as RFC 9112, section 3.2 says; a path that is none of the three routes isn't
 /// found; and a query part is bad that lacks a number that the route wants. `from` and `object` are from
 /// 0 to 2^32 - 1, `count` is from 1 to 10,000; of several pairs with one name the first counts, and other
 /// names are free. Only a query part takes memory to read.
-pub fn asked_of(alloc: Global, name: &str, head: &Head) -> Result<Asked, Refusal>
-    ensures asks { AsksFor name.now head.now.method head.now.target.items result }
+pub fn asked_of(alloc: Global, routes: &ListRoutes, head: &Head) -> Result<Asked, Refusal>
+    ensures asks { AsksFor routes.now head.now.method head.now.target.items result }
     ensures count { IfOk result HasCount }
 {
-    match routed(name.as_bytes(), head) {
+    match routed(routes, head) {
         Ok(matched) => asked_at(alloc, matched),
         Err(why) => Err(why),
     }
@@ -65,8 +65,8 @@ fn asked_at(alloc: Global, matched: Matched<'_>) -> Result<Asked, Refusal>
 }
 
 /// The route of a request, by its method and its target.
-fn routed<'t>(name: &[u8], head: &'t Head) -> Result<Matched<'t>, Refusal>
-    ensures { result_map_both shown (λ why. why) result ≡ routed name.now head.now.method head.now.target.items }
+fn routed<'t>(routes: &ListRoutes, head: &'t Head) -> Result<Matched<'t>, Refusal>
+    ensures { result_map_both shown (λ why. why) result ≡ routed routes.now head.now.method head.now.target.items }
 {
     if !head.is_get() {
         return Err(Refusal::MethodNotAllowed);
@@ -74,49 +74,13 @@ fn routed<'t>(name: &[u8], head: &'t Head) -> Result<Matched<'t>, Refusal>
     let Some(target) = read_target(head.target.as_slice()) else {
         return Err(Refusal::BadRequest);
     };
-    let Some(route) = route_of(name, target.path) else {
+    let Some(route) = routes.find(target.path) else {
         return Err(Refusal::NotFound);
     };
     Ok(Matched {
         route,
         query: target.query,
     })
-}
-
-/// The route of a path: `/lists/`, the list's name, and a call.
-fn route_of(name: &[u8], path: &[u8]) -> Option<Route>
-    ensures { result ≡ route_of name.now path.now }
-{
-    match call_in(name, path) {
-        Some(call) => call_of(call),
-        None => None,
-    }
-}
-
-/// What follows the list's name in a path.
-fn call_in<'t>(name: &[u8], path: &'t [u8]) -> Option<&'t [u8]>
-    ensures { option_map (λ call. call.now) result ≡ call_in name.now path.now }
-{
-    match rest_after(b"/lists/", path) {
-        Some(rest) => rest_after(name, rest),
-        None => None,
-    }
-}
-
-/// The route that is spelled so behind the name.
-fn call_of(call: &[u8]) -> Option<Route>
-    ensures { result ≡ call_of call.now }
-{
-    if call == b"/size".as_slice() {
-        return Some(Route::Size);
-    }
-    if call == b"/page".as_slice() {
-        return Some(Route::Page);
-    }
-    if call == b"/grade".as_slice() {
-        return Some(Route::Grade);
-    }
-    None
 }
 
 /// What a route asks with this query part, or None where a number that it wants isn't there.

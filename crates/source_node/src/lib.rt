@@ -8,10 +8,12 @@ mod answer;
 mod asked;
 mod laws;
 mod node;
+mod routes;
 mod serving;
 
 pub use answer::Answer;
 pub use asked::{Asked, asked_of};
 pub use laws::{a_body_says_its_answer, an_answer_is_read};
 pub use node::node_conn;
+pub use routes::ListRoutes;
 pub use serving::{Served, serve_links};

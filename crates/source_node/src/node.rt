@@ -10,14 +10,14 @@ ghost use Rattle.source_node.specs.Serving.{seen};
 ghost use Rattle.source_node.specs.Connections.{Ends, Serves, Serving, IsRepliedTo};
 
 use super::answer::{ask, write_answer};
-use super::{Asked, asked_of};
+use super::{Asked, ListRoutes, asked_of};
 use http::StatusCode;
 use source_api::{FailKind, Source, Trouble};
 use std::alloc::Global;
 use tk_io::Link;
 use wire::{ConnEnd, Head, Kind, Refusal, read_request, refusal_of, refuse, send};
 
-/// Serves one request on the list of this name, and writes one reply. The request's body isn't read, and once its whole head has come
+/// Serves one request on the list of these routes, and writes one reply. The request's body isn't read, and once its whole head has come
 /// no read is made.
 ///
 /// The first of these decides the status:
@@ -35,7 +35,7 @@ use wire::{ConnEnd, Head, Kind, Refusal, read_request, refusal_of, refuse, send}
 /// were asked for, or an empty page came.
 pub fn node_conn<S: Source, L: Link>(
     alloc: Global,
-    name: &str,
+    routes: &ListRoutes,
     version: Option<u64>,
     source: &mut S,
     link: &mut L,
@@ -43,7 +43,7 @@ pub fn node_conn<S: Source, L: Link>(
     ensures list { S.list source.new ≡ S.list source.old }
     ensures states { S.states source.new ≡ S.states source.old }
     ensures later { NoneFell (S.counts source.old) (S.counts source.new) }
-    ensures ends { Ends name.now version (record {
+    ensures ends { Ends routes.now version (record {
       came = L.left link.old;
       held = L.held link.old;
       held_now = L.held link.new;
@@ -58,7 +58,7 @@ pub fn node_conn<S: Source, L: Link>(
 {
     match read_request(alloc, link) {
         Ok(head) => {
-            let end = answer_head(alloc, name, version, source, link, &head);
+            let end = answer_head(alloc, routes, version, source, link, &head);
             drop(head);
             end
         }
@@ -72,7 +72,7 @@ pub fn node_conn<S: Source, L: Link>(
 /// Replies to a request with this head.
 fn answer_head<S: Source, L: Link>(
     alloc: Global,
-    name: &str,
+    routes: &ListRoutes,
     version: Option<u64>,
     source: &mut S,
     link: &mut L,
@@ -83,12 +83,12 @@ fn answer_head<S: Source, L: Link>(
     ensures later { NoneFell (S.counts source.old) (S.counts source.new) }
     ensures apart { L.Sink.aside link.new ≡ L.Sink.aside link.old }
     ensures incoming { (L.left link.new ≡ L.left link.old) × (L.Intake.faults link.new ≡ L.Intake.faults link.old) × (L.Intake.pieces link.new ≡ L.Intake.pieces link.old) }
-    ensures replied { IsRepliedTo name.now version head.now.method head.now.target.items
+    ensures replied { IsRepliedTo routes.now version head.now.method head.now.target.items
         (seen (S.list source.old) (S.counts source.old) (S.calls source.old) (S.at_hand source.old) (S.states source.old))
         (seen (S.list source.new) (S.counts source.new) (S.calls source.new) (S.at_hand source.new) (S.states source.new))
         (L.held link.old) (L.held link.new) (L.Sink.faults link.old) (L.Sink.faults link.new) result }
 {
-    match serve(alloc, name, version, source, head) {
+    match serve(alloc, routes, version, source, head) {
         Ok(body) => {
             let end = send(link, StatusCode::OK, Kind::Json, Some(body.as_slice()));
             drop(body);
@@ -101,7 +101,7 @@ fn answer_head<S: Source, L: Link>(
 /// The body of the answer to a request with this head.
 fn serve<S: Source>(
     alloc: Global,
-    name: &str,
+    routes: &ListRoutes,
     version: Option<u64>,
     source: &mut S,
     head: &Head,
@@ -109,12 +109,12 @@ fn serve<S: Source>(
     ensures list { S.list source.new ≡ S.list source.old }
     ensures states { S.states source.new ≡ S.states source.old }
     ensures later { NoneFell (S.counts source.old) (S.counts source.new) }
-    ensures serves { Serves name.now version head.now.method head.now.target.items
+    ensures serves { Serves routes.now version head.now.method head.now.target.items
         (seen (S.list source.old) (S.counts source.old) (S.calls source.old) (S.at_hand source.old) (S.states source.old))
         (seen (S.list source.new) (S.counts source.new) (S.calls source.new) (S.at_hand source.new) (S.states source.new))
         (result_map_both (λ body. body.items) (λ why. why) result) }
 {
-    match asked_of(alloc, name, head) {
+    match asked_of(alloc, routes, head) {
         Ok(asked) => serve_asked(alloc, version, source, asked),
         Err(why) => Err(why),
     }

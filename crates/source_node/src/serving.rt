@@ -7,6 +7,7 @@ ghost use Rattle.source_api.specs.Counting.{NoneFell};
 ghost use Rattle.source_node.specs.Serving.{seen};
 ghost use Rattle.source_node.specs.ServingLinks.{port_as, ServesOne, ServesNext, EndsServing};
 
+use super::ListRoutes;
 use super::node::node_conn;
 use source_api::Source;
 use std::alloc::Global;
@@ -21,14 +22,14 @@ pub enum Served {
     PortFault,
 }
 
-/// Serves the list of this name to at most so many links of a port, one after another. Each link is taken,
+/// Serves the list of these routes to at most so many links of a port, one after another. Each link is taken,
 /// its one request answered as [`node_conn`] does, and given back before the next is taken. Once so many
 /// were served, or the port ended or failed, it is asked for no further link. A link that fails ends its
 /// own connection alone, and so does want of memory. The port has to listen already. The call may wait for
 /// ever.
 pub fn serve_links<S: Source, P: Port>(
     alloc: Global,
-    name: &str,
+    routes: &ListRoutes,
     version: Option<u64>,
     conns: u64,
     source: &mut S,
@@ -37,7 +38,7 @@ pub fn serve_links<S: Source, P: Port>(
     ensures list { S.list source.new ≡ S.list source.old }
     ensures states { S.states source.new ≡ S.states source.old }
     ensures later { NoneFell (S.counts source.old) (S.counts source.new) }
-    ensures ends { EndsServing name.now version conns
+    ensures ends { EndsServing routes.now version conns
         (port_as P.links P.closed P.faults P.calls port.old)
         (port_as P.links P.closed P.faults P.calls port.new)
         (seen (S.list source.old) (S.counts source.old) (S.calls source.old) (S.at_hand source.old) (S.states source.old))
@@ -46,7 +47,7 @@ pub fn serve_links<S: Source, P: Port>(
 {
     let mut served = 0;
     while served < conns {
-        match serve_next(alloc, name, version, source, port) {
+        match serve_next(alloc, routes, version, source, port) {
             Ok(true) => served += 1,
             Ok(false) => return Served::Ended { conns: served },
             Err(Failed) => return Served::PortFault,
@@ -58,7 +59,7 @@ pub fn serve_links<S: Source, P: Port>(
 /// Takes the next link, serves it and gives it back. False where the port has ended.
 fn serve_next<S: Source, P: Port>(
     alloc: Global,
-    name: &str,
+    routes: &ListRoutes,
     version: Option<u64>,
     source: &mut S,
     port: &mut P,
@@ -66,7 +67,7 @@ fn serve_next<S: Source, P: Port>(
     ensures list { S.list source.new ≡ S.list source.old }
     ensures states { S.states source.new ≡ S.states source.old }
     ensures later { NoneFell (S.counts source.old) (S.counts source.new) }
-    ensures serves { ServesNext name.now version
+    ensures serves { ServesNext routes.now version
         (port_as P.links P.closed P.faults P.calls port.old)
         (port_as P.links P.closed P.faults P.calls port.new)
         (seen (S.list source.old) (S.counts source.old) (S.calls source.old) (S.at_hand source.old) (S.states source.old))
@@ -75,7 +76,7 @@ fn serve_next<S: Source, P: Port>(
 {
     match port.accept() {
         Ok(Some(link)) => {
-            serve_link(alloc, name, version, source, port, link);
+            serve_link(alloc, routes, version, source, port, link);
             Ok(true)
         }
         Ok(None) => Ok(false),
@@ -86,7 +87,7 @@ fn serve_next<S: Source, P: Port>(
 /// Serves a link that was just taken, and gives it back.
 fn serve_link<S: Source, P: Port>(
     alloc: Global,
-    name: &str,
+    routes: &ListRoutes,
     version: Option<u64>,
     source: &mut S,
     port: &mut P,
@@ -100,10 +101,10 @@ fn serve_link<S: Source, P: Port>(
     ensures links { P.links port.new ≡ P.links port.old }
     ensures faults { P.faults port.new ≡ P.faults port.old }
     ensures calls { P.calls port.new ≡ with_more (PortCall.TookBack ∷ []) (P.calls port.old) }
-    ensures serves { ServesOne name.now version (P.L.left link) (P.L.held link) (P.closed port.old) (P.closed port.new)
+    ensures serves { ServesOne routes.now version (P.L.left link) (P.L.held link) (P.closed port.old) (P.closed port.new)
         (seen (S.list source.old) (S.counts source.old) (S.calls source.old) (S.at_hand source.old) (S.states source.old))
         (seen (S.list source.new) (S.counts source.new) (S.calls source.new) (S.at_hand source.new) (S.states source.new)) }
 {
-    node_conn(alloc, name, version, source, &mut link);
+    node_conn(alloc, routes, version, source, &mut link);
     port.hang_up(link);
 }

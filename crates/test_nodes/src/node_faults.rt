@@ -2,7 +2,7 @@
 
 use super::node_visits::{A, FAILED, OK, comes_to};
 use super::{holds, none_is_wrong};
-use source_node::node_conn;
+use source_node::{ListRoutes, node_conn};
 use std::alloc::Global;
 use test_mem_source::visits::{CLOSE, Parts, joined};
 use test_mem_source::{Held, Kind, source_of};
@@ -110,7 +110,8 @@ fn written_at(alloc: Global, request: Parts, fails: Fails) -> Option<usize> {
     };
     let mut link = link.ok()?;
     let mut source = source_of(alloc, &A)?;
-    let end = node_conn(alloc, "A", None, &mut source, &mut link);
+    let routes = ListRoutes::make(alloc, "A").ok()?;
+    let end = node_conn(alloc, &routes, None, &mut source, &mut link);
     let written = link.taken().len();
     drop(source);
     drop(link);

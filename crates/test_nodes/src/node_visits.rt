@@ -1,6 +1,6 @@
 //! Requests to a node of the list A over a link in memory, and their replies.
 
-use source_node::node_conn;
+use source_node::{ListRoutes, node_conn};
 use std::alloc::Global;
 use test_mem_source::visits::{CLOSE, PLAIN, Parts, joined, link_of, status_in};
 use test_mem_source::{Held, Kind, MemSource, source_of};
@@ -57,7 +57,11 @@ pub(crate) fn replies(
     let Some(mut link) = link_of(alloc, request, piece, &[], &[]) else {
         return false;
     };
-    let end = node_conn(alloc, "A", version, source, &mut link);
+    let Ok(routes) = ListRoutes::make(alloc, "A") else {
+        drop(link);
+        return false;
+    };
+    let end = node_conn(alloc, &routes, version, source, &mut link);
     let is_so = is_reply(alloc, end, &link, reply);
     drop(link);
     is_so

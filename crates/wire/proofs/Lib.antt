@@ -12,3 +12,4 @@ pub mod ToldLaws
 mod WritingLaws
 pub mod TargetLaws
 pub mod QueryLaws
+pub mod PathLaws

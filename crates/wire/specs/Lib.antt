@@ -14,3 +14,4 @@ pub mod Writing
 -- What targets and query parts say.
 pub mod Targets
 pub mod Queries
+pub mod Routes

@@ -18,6 +18,7 @@ mod refusal;
 mod replying;
 mod request;
 mod response;
+mod routes;
 mod target;
 mod writing;
 
@@ -30,5 +31,6 @@ pub use refusal::{Refusal, refusal_of};
 pub use replying::{ConnEnd, refuse, send};
 pub use request::{Head, read_request};
 pub use response::{Reply, read_response};
+pub use routes::Routes;
 pub use target::{Target, read_target};
 pub use writing::{Kind, Place, write_reply, write_request};

@@ -10,5 +10,5 @@ returns-in-Ok-clause-serves g c =
     let mid = port_as g.P.Port.links g.P.Port.closed g.P.Port.faults g.P.Port.calls c.listen.new.self in
     let source = seen (g.S.Source.list c.args.source.now) (g.S.Source.counts c.args.source.now) (g.S.Source.calls c.args.source.now) (g.S.Source.at_hand c.args.source.now) (g.S.Source.states c.args.source.now) in
     let source_now = seen (g.S.Source.list c.serve_links.new.source) (g.S.Source.counts c.serve_links.new.source) (g.S.Source.calls c.serve_links.new.source) (g.S.Source.at_hand c.serve_links.new.source) (g.S.Source.states c.serve_links.new.source) in
-    serves_at c.args.options.now c.as_str.result.now ports mid source source_now c.serve_links.result c.as_str.ensures
+    serves_at c.args.options.now c.args.routes.now ports mid source source_now c.serve_links.result c.requires
     c.in-Ok.ensures.links c.in-Ok.ensures.closed c.in-Ok.ensures.cause.stays c.in-Ok.ensures.calls c.serve_links.ensures.ends

@@ -14,17 +14,17 @@ loop-served-preserved g c =
     let source = seen (g.S.Source.list c.args.source.now) (g.S.Source.counts c.args.source.now) (g.S.Source.calls c.args.source.now) (g.S.Source.at_hand c.args.source.now) (g.S.Source.states c.args.source.now) in
     let after = seen (g.S.Source.list c.loop-served.source) (g.S.Source.counts c.loop-served.source) (g.S.Source.calls c.loop-served.source) (g.S.Source.at_hand c.loop-served.source) (g.S.Source.states c.loop-served.source) in
     let source_now = seen (g.S.Source.list c.serve_next.new.source) (g.S.Source.counts c.serve_next.new.source) (g.S.Source.calls c.serve_next.new.source) (g.S.Source.at_hand c.serve_next.new.source) (g.S.Source.states c.serve_next.new.source) in
-    let next = next_served Failed c.args.name.now c.args.version mid now after source_now c.in-Ok-true.field-0 c.in-Ok-true.field-0-test c.in-Ok-true.ensures.serves in
+    let next = next_served Failed c.args.routes.now c.args.version mid now after source_now c.in-Ok-true.field-0 c.in-Ok-true.field-0-test c.in-Ok-true.ensures.serves in
     let more : c.loop-served.served + 1 ≤ c.args.conns = omega arith in (
       c.serve_next.ensures.list ∙ c.loop-served.invariant.0,
       c.serve_next.ensures.states ∙ c.loop-served.invariant.1,
       fell_then _ _ _ c.loop-served.invariant.2 c.serve_next.ensures.later,
       more,
       next.quiet ∙ c.loop-served.invariant.4,
-      one_more c.args.name.now c.args.version before mid now source after source_now c.loop-served.served c.loop-served.invariant.5 next,
+      one_more c.args.routes.now c.args.version before mid now source after source_now c.loop-served.served c.loop-served.invariant.5 next,
     )
 
 pub returns-in-Ok-false-clause-ends : goal.returns-in-Ok-false-clause-ends
 returns-in-Ok-false-clause-ends g c =
-    let none = none_came Failed c.args.name.now c.args.version _ _ _ _ c.in-Ok-false.field-0 c.in-Ok-false.field-0-test c.in-Ok-false.ensures.serves in
-    all_that_came c.args.name.now c.args.version c.args.conns _ _ _ _ _ _ c.loop-served.served c.loop-served.invariant.3 c.loop-served.invariant.4 c.loop-served.invariant.5 none
+    let none = none_came Failed c.args.routes.now c.args.version _ _ _ _ c.in-Ok-false.field-0 c.in-Ok-false.field-0-test c.in-Ok-false.ensures.serves in
+    all_that_came c.args.routes.now c.args.version c.args.conns _ _ _ _ _ _ c.loop-served.served c.loop-served.invariant.3 c.loop-served.invariant.4 c.loop-served.invariant.5 none

@@ -19,5 +19,5 @@ returns-in-Ok-Some-clause-serves g c =
     let fresh : IsFresh held (g.P.L.Intake.faults c.in-Ok-Some.link) (g.P.L.Sink.faults c.in-Ok-Some.link) (g.P.L.Intake.pieces c.in-Ok-Some.link) = search rules in
     let gave : g.P.Port.calls c.accept.new.self ≡ with_more (PortCall.Gave ∷ []) (g.P.Port.calls c.args.port.now) =
     subst (λ (call : PortCall). g.P.Port.calls c.accept.new.self ≡ with_more (call ∷ []) (g.P.Port.calls c.args.port.now)) (ap accepted (c.in-Ok-Some.is ∙ ap Ok c.in-Ok-Some.field-0-is)) c.accept.ensures.calls in
-    first_served c.args.name.now c.args.version before mid now came held source source_now given fresh.taken c.in-Ok-Some.ensures.closed
+    first_served c.args.routes.now c.args.version before mid now came held source source_now given fresh.taken c.in-Ok-Some.ensures.closed
     c.in-Ok-Some.ensures.cause.stays gave c.serve_link.ensures.links c.serve_link.ensures.faults c.serve_link.ensures.calls c.serve_link.ensures.serves
