@@ -3,9 +3,7 @@ use Rattle.std.proofs.Common.{◌≡◌, ℕ, Bool, true, false, cond, ap, inl, 
 use Rattle.std.specs.Result.{IsOk}
 use Rattle.std.specs.Str.{bytes_eq}
 use Rattle.wire.specs.Heads.{AnswersRequest}
-use Rattle.tk_io.specs.Faults.{Rose}
 use Rattle.wire.specs.declared.fault.WireFault.{WireFault}
-use Rattle.wire.specs.declared.fault.WireFault.TheVariants as heard
 use Rattle.wire.specs.declared.request.Head.{Head}
 use Rattle.wire.specs.LinkTold.{Counts as Counted}
 use Rattle.wire.specs.Refusals.{status_of, body_of, refusal_of, IsRefusedAs}

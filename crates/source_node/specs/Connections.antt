@@ -1,10 +1,8 @@
 -- How a connection of a node ends.
-use Rattle.std.specs.Prelude.{◌≡◌, ℕ, Bool, false, ◌⊎◌, List, codes, Option, Some, IfSome, Result, Ok, Err, IsOk}
+use Rattle.std.specs.Prelude.{◌≡◌, ℕ, Bool, ◌⊎◌, List, codes, Option, Some, IfSome, Result, Ok, Err, IsOk}
 use Rattle.std.specs.Option.{unwrap_or}
 use Rattle.std.specs.Str.{bytes_eq}
-use Rattle.std.specs.Io.KnownBytes.{Appends}
 use Rattle.tk_io.specs.Faults.{Rose}
-use Rattle.tk_io.specs.Whole.{TookFront}
 use Rattle.wire.specs.Heads.{AnswersRequest}
 use Rattle.wire.specs.Writing.{reply_text}
 use Rattle.wire.specs.declared.fault.WireFault.{WireFault}
