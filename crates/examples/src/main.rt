@@ -6,6 +6,7 @@
 mod given;
 mod running;
 
+use place_shelf::PlaceShelf;
 use running::run_example;
 use std::io;
 
@@ -13,7 +14,10 @@ use std::io;
 fn main(rt: HostRuntime) -> io::Result<()> {
     let examples = io::read_to_string(rt.alloc(), rt.stdin())?;
     for example in examples.lines() {
-        let (code, is_its_text) = run_example(&rt, example)?;
+        let mut shelf = PlaceShelf::make(rt.alloc(), &rt, &rt);
+        let ended = run_example(&rt, &mut shelf, example);
+        drop(shelf);
+        let (code, is_its_text) = ended?;
         let what = if is_its_text { "its" } else { "another" };
         println!(rt; "{example} ends with {code}, and wrote {what} text")?;
     }

@@ -1,13 +1,13 @@
 //! One example, and whether it writes its text.
 
 use super::given::Given;
-use file_source::FileShelf;
+use source_api::Shelf;
 use std::io::ErrorKind;
 use std::rt::Files;
 use std::sync::Wait;
 use std::thread::Threads;
 use std::{fs, io};
-use tk_io::{MemPort, MemSink, StdIntake};
+use tk_io::{Intake, MemPort, MemSink, StdIntake};
 use topk_top::run_process;
 
 /// The most bytes that an example writes.
@@ -15,15 +15,16 @@ const ROOM: u32 = 40_000;
 
 /// The exit status of an example, a line with a file and the words of a command, and whether what it wrote is the text that stands beside the
 /// file, under its name with the ending `.text`. An error where the line is none, or a file can't be read.
-pub fn run_example<R: Files + AllocGlobal + Threads + Wait + Sync>(
+pub fn run_example<R: Files + AllocGlobal + Threads + Wait + Sync, H: Shelf>(
     rt: &R,
+    shelf: &mut H,
     example: &str,
 ) -> io::Result<(u8, bool)> {
     let Some((input, command)) = example.split_once(' ') else {
         return Err(io::Error::from(ErrorKind::InvalidInput));
     };
     let text = text_of(rt, input)?;
-    let ended = run_over(rt, input, Given { command }, &text);
+    let ended = run_over(rt, shelf, input, Given { command }, &text);
     drop(text);
     ended
 }
@@ -35,23 +36,25 @@ fn text_of<R: Files + AllocGlobal>(rt: &R, input: &str) -> io::Result<Vec<u8>> {
 }
 
 /// The exit status of a process over a file, and whether it wrote this text.
-fn run_over<R: Files + AllocGlobal + Threads + Wait + Sync>(
+fn run_over<R: Files + AllocGlobal + Threads + Wait + Sync, H: Shelf>(
     rt: &R,
+    shelf: &mut H,
     input: &str,
     given: Given<'_>,
     text: &[u8],
 ) -> io::Result<(u8, bool)> {
     let mut input = StdIntake::make(fs::open(rt, input)?);
-    let ended = write_by(rt, given, &mut input, text);
+    let ended = write_by(rt, shelf, given, &mut input, text);
     drop(input);
     ended
 }
 
-/// The exit status of a process over an input, and whether it wrote this text.
-fn write_by<R: Files + AllocGlobal + Threads + Wait + Sync>(
+/// The exit status of a process over an input, at a port to which nobody comes, and whether it wrote this text.
+fn write_by<R: AllocGlobal + Threads + Wait + Sync, H: Shelf, I: Intake>(
     rt: &R,
+    shelf: &mut H,
     given: Given<'_>,
-    input: &mut StdIntake<R::File>,
+    input: &mut I,
     text: &[u8],
 ) -> io::Result<(u8, bool)> {
     let Ok(mut port) = MemPort::make(rt.alloc(), Vec::new(rt.alloc()), &[]) else {
@@ -61,23 +64,9 @@ fn write_by<R: Files + AllocGlobal + Threads + Wait + Sync>(
         drop(port);
         return Err(io::Error::from(ErrorKind::OutOfMemory));
     };
-    let code = code_of(rt, given, input, &mut out, &mut port);
+    let code = run_process(rt, &given, rt.alloc(), shelf, input, &mut out, &mut port);
     let is_its_text = out.taken() == text;
     drop(out);
     drop(port);
     Ok((code, is_its_text))
-}
-
-/// The exit status of a process over an input and the files beside it, at a port to which nobody comes.
-fn code_of<R: Files + AllocGlobal + Threads + Wait + Sync>(
-    rt: &R,
-    given: Given<'_>,
-    input: &mut StdIntake<R::File>,
-    out: &mut MemSink,
-    port: &mut MemPort,
-) -> u8 {
-    let mut shelf = FileShelf::make(rt.alloc(), rt);
-    let code = run_process(rt, &given, rt.alloc(), &mut shelf, input, out, port);
-    drop(shelf);
-    code
 }

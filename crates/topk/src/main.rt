@@ -1,11 +1,6 @@
 //! The program: the top call over the words, the standard streams and the files of the process, and the lists that hosts serve.
 #![tactic(auto)]
 
-mod dial_maker;
-mod opening;
-mod place_shelf;
-mod place_source;
-
 use place_shelf::PlaceShelf;
 use std::net::{IpAddr, Ipv6Addr};
 use std::process::ExitCode;

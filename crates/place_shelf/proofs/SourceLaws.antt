@@ -9,13 +9,13 @@ use Rattle.source_api.specs.Counting.{no_counts}
 use Rattle.file_source.specs.FileLists.{told_list}
 use Rattle.file_source.specs.Filed.{Filed}
 use Rattle.file_source.specs.ListFile.{list_records, told_records}
-use Rattle.file_source.specs.Shelved.{told_rows}
+use Rattle.file_source.specs.Reading.{told_rows}
 use Rattle.http_source.specs.Served.{counts_with}
 use Rattle.catalog_text.proofs.AddressLaws.{address_is_remote}
-use Rattle.topk.specs.declared.place_source.PlaceSource.{PlaceSource}
-use Rattle.topk.specs.declared.place_source.PlaceSource.TheVariants.{File, Http}
-use Rattle.topk.specs.Sources.{list_of, counts_of, version_of, states_of, IsSourceOf}
-use Rattle.topk.specs.Shelved.{list_at, version_at}
+use Rattle.place_shelf.specs.declared.place_source.PlaceSource.{PlaceSource}
+use Rattle.place_shelf.specs.declared.place_source.PlaceSource.TheVariants.{File, Http}
+use Rattle.place_shelf.specs.Sources.{list_of, counts_of, version_of, states_of, IsSourceOf}
+use Rattle.place_shelf.specs.Shelved.{list_at, version_at}
 
 -- it has counted nothing
 pub source_is_fresh : {D L : Type 0} (contents : List ℕ → Option (List ℕ)) (Makes : D → Type 0) (faults : D → ℕ) (place : List ℕ) (s : PlaceSource D L)

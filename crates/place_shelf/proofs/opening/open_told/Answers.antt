@@ -1,10 +1,10 @@
 use Rattle.std.proofs.Common.{◌≡◌, Some}
 use Rattle.std.specs.Prelude.{IfSome}
 use Rattle.source_api.specs.Counting.{no_counts}
-use Rattle.topk.specs.Shelved.{list_at, version_at}
-use Rattle.topk.specs.Sources.{IsSourceOf, list_of, counts_of, version_of, states_of}
-use Rattle.topk.proofs.SourceLaws.{of_opened, source_is_fresh, source_is_unasked, source_states, source_lists}
-use Rattle.topk.proofs.opening.open_told.Goals as goal
+use Rattle.place_shelf.specs.Shelved.{list_at, version_at}
+use Rattle.place_shelf.specs.Sources.{IsSourceOf, list_of, counts_of, version_of, states_of}
+use Rattle.place_shelf.proofs.SourceLaws.{of_opened, source_is_fresh, source_is_unasked, source_states, source_lists}
+use Rattle.place_shelf.proofs.opening.open_told.Goals as goal
 
 pub returns-clause-source : goal.returns-clause-source
 returns-clause-source g c = c.open_place.ensures.source

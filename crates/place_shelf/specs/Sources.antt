@@ -9,8 +9,8 @@ use Rattle.file_source.specs.ListFile.{list_records}
 use Rattle.file_source.specs.Filed.{Filed}
 use Rattle.http_source.specs.Served.{Served, counts_with}
 use Rattle.catalog_text.specs.Places.{is_remote, IsAddress}
-use Rattle.topk.specs.declared.place_source.PlaceSource.{PlaceSource}
-use Rattle.topk.specs.declared.place_source.PlaceSource.TheVariants.{File, Http}
+use Rattle.place_shelf.specs.declared.place_source.PlaceSource.{PlaceSource}
+use Rattle.place_shelf.specs.declared.place_source.PlaceSource.TheVariants.{File, Http}
 
 -- the list that it tells: that of a file
 abbrev pub list_of : {D L : Type 0} → PlaceSource D L → Option (List Row)

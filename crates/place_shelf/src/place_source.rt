@@ -3,8 +3,8 @@
 ghost use Rattle.std.specs.Prelude.{◌≡◌, ◌≤◌, length, vec_len, IfErr, IfOk, IfSome, OnErr, OnOk};
 ghost use Rattle.source_api.specs.Counting.{NoneFell, TroubleHasCause, CountsAlone, MovedHasCause, IsNoMove, GaveNothing, GaveRows, GaveGrade, gave_rows, gave_grade};
 ghost use Rattle.source_api.specs.Told.{IsPage, IsGrade};
-ghost use Rattle.topk.specs.Asking.{AsksSize, AsksPage, AsksGrade};
-ghost use Rattle.topk.specs.Sources.{list_of, counts_of, version_of, states_of};
+ghost use Rattle.place_shelf.specs.Asking.{AsksSize, AsksPage, AsksGrade};
+ghost use Rattle.place_shelf.specs.Sources.{list_of, counts_of, version_of, states_of};
 
 use file_source::ListSource;
 use http_source::HttpSource;
@@ -37,7 +37,7 @@ impl<D: Dial + Drop> PlaceSource<D> {
 }
 
 impl<D: Dial + Send + Drop> Source for PlaceSource<D> {
-    ghost use Rattle.topk.specs.Sources.{list_has_each_once};
+    ghost use Rattle.place_shelf.specs.Sources.{list_has_each_once};
 
     ghost list = { list_of };
 

@@ -1,4 +1,4 @@
-use Rattle.topk.proofs.place_source.PlaceSourceSource.grade.Goals as goal
+use Rattle.place_shelf.proofs.place_source.PlaceSourceSource.grade.Goals as goal
 
 pub returns-in-Http-clause-asks : goal.returns-in-Http-clause-asks
 returns-in-Http-clause-asks g c = rw c.in-Http.is (record {

@@ -10,8 +10,8 @@ use Rattle.http_source.specs.Requests.{size_tail, page_tail, grade_tail}
 use Rattle.http_source.specs.Exchanges.{next_bytes, UsesLink, DialsOnce, FailsWith, IsUnanswered}
 use Rattle.http_source.specs.Answers.{AnswersSize, AnswersPage, AnswersGrade}
 use Rattle.http_source.specs.Served.{Served, request_of, host_port_of, size_counted, page_counted, grade_counted}
-use Rattle.topk.specs.declared.place_source.PlaceSource.{PlaceSource}
-use Rattle.topk.specs.declared.place_source.PlaceSource.TheVariants.{File, Http}
+use Rattle.place_shelf.specs.declared.place_source.PlaceSource.{PlaceSource}
+use Rattle.place_shelf.specs.declared.place_source.PlaceSource.TheVariants.{File, Http}
 
 -- a call asks a host once for what stands behind the list's path, on one link to the list's host and port, whose bytes decide the answer where they are
 -- told; the list stays the one at this host, port and path, at this version from then on

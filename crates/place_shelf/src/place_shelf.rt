@@ -6,13 +6,14 @@ ghost use Rattle.source_api.specs.declared.source.FailKind.TheVariants.{Memory};
 ghost use Rattle.source_api.specs.declared.source.Trouble.TheVariants.{Fail};
 ghost use Rattle.source_api.specs.Counting.{no_counts};
 ghost use Rattle.source_api.specs.Places.{IsTaking, SameAtEach, SameElsewhere, CountsTakes, HasTakeCause, counts_at, counts_taken, is_known};
-ghost use Rattle.topk.specs.Shelved.{list_at, version_at};
-ghost use Rattle.topk.specs.Sources.{IsSourceOf, list_of, counts_of, version_of, states_of};
+ghost use Rattle.place_shelf.specs.Shelved.{list_at, version_at};
+ghost use Rattle.place_shelf.specs.Sources.{IsSourceOf, list_of, counts_of, version_of, states_of};
 
+use super::counting::{count_take, count_text};
 use super::dial_maker::DialMaker;
 use super::opening::open_told;
 use super::place_source::PlaceSource;
-use file_source::{FileTree, count_take, count_text, read_file};
+use file_source::{FileTree, read_file};
 use source_api::{FailKind, Ledger, Shelf, Trouble};
 use std::alloc::Global;
 use std::marker::Model;
@@ -35,7 +36,7 @@ pub struct PlaceShelf<'a, F: FileTree, M: DialMaker> {
 
 impl<'a, F: FileTree, M: DialMaker> Model for PlaceShelf<'a, F, M> {
     ghost use Rattle.source_api.specs.contracts.ledger.Ledger as kept;
-    ghost use Rattle.topk.specs.Shelved.{PlacesShelved, places_code};
+    ghost use Rattle.place_shelf.specs.Shelved.{PlacesShelved, places_code};
 
     ghost Value = { PlacesShelved F M };
 
