@@ -8,7 +8,6 @@
 mod answering;
 mod ca;
 mod choosing;
-mod driven;
 mod following;
 mod foreseen;
 mod kept_high;

@@ -5,7 +5,6 @@
 #![tactic(auto)]
 
 mod answering;
-mod driven;
 mod fa;
 mod following;
 mod stage;

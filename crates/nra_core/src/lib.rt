@@ -5,7 +5,6 @@
 //! kept of the seen objects so that the stop is decided exactly and the answer is read at the end.
 #![tactic(auto)]
 
-mod driven;
 mod ending;
 mod late;
 mod laws;

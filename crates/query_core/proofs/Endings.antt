@@ -9,15 +9,18 @@ use Rattle.theta_theory.specs.Guarantee.{early_guarantee}
 use Rattle.theta_theory.specs.Within.{IsWithin}
 use Rattle.machine_base.specs.declared.answer.Answer.{Answer}
 use Rattle.machine_base.specs.Machine.{MachineState, asked_of, IsSameLog, MakesRun, IsAnswerBy}
-use Rattle.ta_core.specs.MachineWithin.{ThetaState, EarlyState, MakesThetaRun, MakesEarlyRun, IsThetaAnswer, IsEarlyAnswer}
+use Rattle.ta_core.specs.declared.halting.Halting.{Halting}
+use Rattle.ta_core.specs.declared.halting.Halting.TheVariants as halts
+use Rattle.ta_core.specs.Machine.{ThresholdState, IsAnswerHalting, MakesItsRun as MakesHaltingRun, IsAnswer as IsHaltingAnswer}
 use Rattle.zlist_core.specs.Machine.{RestrictedState, MakesItsRun, IsAnswer}
-use Rattle.query_text.specs.declared.algorithm.Algorithm.TheVariants.{Theta, Early}
+use Rattle.query_text.specs.declared.algorithm.Algorithm.TheVariants.{Ta, Theta, Early}
 use Rattle.guarantee.specs.Guarantee.{guarantee_by}
 use Rattle.query_core.specs.declared.machine.Machine.{Machine}
 use Rattle.query_core.specs.declared.machine.Machine.TheVariants as machines
 use Rattle.query_core.specs.Methods.{Method, method_with, run_with, items_with, IsGoodBy, FixesBy, AnswersWith}
-use Rattle.query_core.specs.Machines.{method_of, state_of}
+use Rattle.query_core.specs.Machines.{algorithm_halting, method_of, state_of}
 use Rattle.query_core.proofs.Answering.{EndsWith, ends_with}
+use Rattle.query_core.proofs.Halting.{halting_makes}
 
 -- a method guarantees no factor
 abbrev pub HasNoFactor : Method → Type 0
@@ -36,25 +39,31 @@ plain_answers method t items none answers =
       fixed = subst (λ g. FixesBy g (asked_of t) t.log.lists t.log.count t.log.accesses Y) (sym (none (value t.expr) t.log.lists t.log.accesses Y)) answers.fixed.fixes;
     }
 
-theta_answers : (t : ThetaState) (items : List Item) → IsThetaAnswer t items → AnswersWith (method_with (Theta t.factor.p t.factor.q) []) t.state items
-theta_answers t items answers = record {
+-- a rule of halting guarantees a top k, or a factor
+within_answers : (p q : ℕ) (t : MachineState) (items : List Item) → IsAnswerHalting (halts.Within p q) t items → AnswersWith (method_with (Theta p q) []) t items
+within_answers p q t items answers = record {
   exact = answers.exact;
   good = record { on_each = λ D agrees. answers.near.on_each D agrees };
   fixed = answers.fixed.fixes;
 }
 
-early_answers : (t : EarlyState) (items : List Item) → IsEarlyAnswer t items → AnswersWith (method_with (Early t.depth) []) t.state items
-early_answers t items answers =
+early_answers : (depth : ℕ) (t : MachineState) (items : List Item) → IsAnswerHalting (halts.Early depth) t items → AnswersWith (method_with (Early depth) []) t items
+early_answers depth t items answers =
     let Y = item_objects items in
-    let A = t.state.log.accesses in
+    let A = t.log.accesses in
     record {
       exact = answers.exact;
       good = record {
         on_each = λ D agrees.
-            subst (λ m. IsWithin (value t.state.expr) t.state.k (early_guarantee (value t.state.expr) m A Y) D Y) (sym agrees.lists) (answers.near.on_each D agrees);
+            subst (λ m. IsWithin (value t.expr) t.k (early_guarantee (value t.expr) m A Y) D Y) (sym agrees.lists) (answers.near.on_each D agrees);
       };
       fixed = answers.fixed.fixes;
     }
+
+halting_answers : (rule : Halting) (t : MachineState) (items : List Item) → IsAnswerHalting rule t items → AnswersWith (method_with (algorithm_halting rule) []) t items
+halting_answers halts.Exact t items answers = plain_answers (method_with Ta []) t items (λ V m A Y. refl) answers
+halting_answers (halts.Within p q) t items answers = within_answers p q t items answers
+halting_answers (halts.Early depth) t items answers = early_answers depth t items answers
 
 -- what holds of an answer, so of how a call for it ends
 ok_map : {E : Type 0} → (P Q : Answer → Type 0) (ending : Result Answer E) → ((answer : Answer) → P answer → Q answer) → IfOk ending P → IfOk ending Q
@@ -72,20 +81,13 @@ plain_ends machine other ending none is done run items log =
     ending (λ answer h. plain_answers (method_of other) (state_of other) answer.items none h) items)
     log
 
-pub theta_ends : {E : Type 0} → (machine : Machine) (t : ThetaState) (ending : Result Answer E) → machine ≡ machines.Theta t → (state_of machine).need ≡ Done
-    → MakesThetaRun t → IfOk ending (λ answer. IsThetaAnswer t answer.items) → IfOk ending (λ answer. IsSameLog answer.transcript t.state.log) → EndsWith machine ending
-theta_ends machine t ending is done run items log =
-    ends_with machine (machines.Theta t) ending is done run
-    (ok_map (λ answer. IsThetaAnswer t answer.items) (λ answer. AnswersWith (method_of (machines.Theta t)) t.state answer.items) ending
-    (λ answer h. theta_answers t answer.items h) items)
-    log
-
-pub early_ends : {E : Type 0} → (machine : Machine) (t : EarlyState) (ending : Result Answer E) → machine ≡ machines.Early t → (state_of machine).need ≡ Done
-    → MakesEarlyRun t → IfOk ending (λ answer. IsEarlyAnswer t answer.items) → IfOk ending (λ answer. IsSameLog answer.transcript t.state.log) → EndsWith machine ending
-early_ends machine t ending is done run items log =
-    ends_with machine (machines.Early t) ending is done run
-    (ok_map (λ answer. IsEarlyAnswer t answer.items) (λ answer. AnswersWith (method_of (machines.Early t)) t.state answer.items) ending
-    (λ answer h. early_answers t answer.items h) items)
+pub threshold_ends : {E : Type 0} → (machine : Machine) (t : ThresholdState) (ending : Result Answer E) → machine ≡ machines.Ta t → (state_of machine).need ≡ Done
+    → MakesHaltingRun t → IfOk ending (λ answer. IsHaltingAnswer t answer.items) → IfOk ending (λ answer. IsSameLog answer.transcript t.state.log)
+    → EndsWith machine ending
+threshold_ends machine t ending is done run items log =
+    ends_with machine (machines.Ta t) ending is done (halting_makes t.halting t.state run)
+    (ok_map (λ answer. IsHaltingAnswer t answer.items) (λ answer. AnswersWith (method_of (machines.Ta t)) t.state answer.items) ending
+    (λ answer h. halting_answers t.halting t.state answer.items h) items)
     log
 
 pub restricted_ends : {E : Type 0} → (machine : Machine) (t : RestrictedState) (ending : Result Answer E) → machine ≡ machines.Taz t → (state_of machine).need ≡ Done

@@ -14,6 +14,7 @@ pub mod AllFacts
 pub mod RunLength
 pub mod Feeding
 pub mod Answering
+mod Halting
 pub mod Endings
-mod Making
+mod Made
 mod Foreseen

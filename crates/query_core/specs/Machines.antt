@@ -6,6 +6,8 @@ use Rattle.query_text.specs.declared.algorithm.Algorithm.{Algorithm}
 use Rattle.query_text.specs.declared.algorithm.Algorithm.TheVariants.{Ta, Nra, Ca, Fa, Theta, Early, Taz}
 use Rattle.machine_base.specs.Machine.{MachineState, MakesRun, IsBegun}
 use Rattle.machine_base.specs.Certain.{left_of}
+use Rattle.ta_core.specs.declared.halting.Halting.{Halting}
+use Rattle.ta_core.specs.declared.halting.Halting.TheVariants as halts
 use Rattle.ta_core.specs.Certain.{left_of_seen}
 use Rattle.ca_core.specs.Machine.{IsLeftOf}
 use Rattle.query_core.specs.declared.machine.Machine.{Machine}
@@ -15,26 +17,28 @@ use Rattle.query_core.specs.Methods.{Method, method_with, run_with}
 use Rattle.query_core.specs.Ready.{method_of_ready}
 use Rattle.query_text.specs.Costs.{costs_in_force}
 
+-- the algorithm that halts by a rule
+abbrev pub algorithm_halting : Halting → Algorithm
+algorithm_halting halts.Exact = Ta
+algorithm_halting (halts.Within p q) = Theta p q
+algorithm_halting (halts.Early depth) = Early depth
+
 -- by what a machine runs, and what contracts see of its state
 abbrev pub method_of : Machine → Method
-method_of (machines.Ta t) = method_with Ta []
+method_of (machines.Ta t) = method_with (algorithm_halting t.halting) []
 method_of (machines.Nra t) = method_with Nra []
 method_of (machines.Ca t) = method_with Ca []
 method_of (machines.Fa t) = method_with Fa []
-method_of (machines.Theta t) = method_with (Theta t.factor.p t.factor.q) []
-method_of (machines.Early t) = method_with (Early t.depth) []
 method_of (machines.Taz t) = method_with Taz t.sorted
 
 abbrev pub algorithm_of : Machine → Algorithm
 algorithm_of machine = (method_of machine).algorithm
 
 abbrev pub state_of : Machine → MachineState
-state_of (machines.Ta t) = t
+state_of (machines.Ta t) = t.state
 state_of (machines.Nra t) = t
 state_of (machines.Ca t) = t
 state_of (machines.Fa t) = t
-state_of (machines.Theta t) = t.state
-state_of (machines.Early t) = t.state
 state_of (machines.Taz t) = t.state
 
 -- the machine makes the run of its method
@@ -49,10 +53,8 @@ pub record IsMachineFor (ready : Ready) (machine : Machine) : Type 0 where
 
 -- what is left of a list by the algorithm of a machine; two foresee nothing
 abbrev pub IsLeftFor : Machine → ℕ → Need → Type 0
-IsLeftFor (machines.Ta t) list need = need ≡ left_of_seen t list
+IsLeftFor (machines.Ta t) list need = need ≡ left_of_seen t.state list
 IsLeftFor (machines.Nra t) list need = need ≡ left_of t [] list
 IsLeftFor (machines.Ca t) list need = IsLeftOf t list need
 IsLeftFor (machines.Fa t) list need = need ≡ Done
-IsLeftFor (machines.Theta t) list need = need ≡ left_of_seen t.state list
-IsLeftFor (machines.Early t) list need = need ≡ left_of_seen t.state list
 IsLeftFor (machines.Taz t) list need = need ≡ Done

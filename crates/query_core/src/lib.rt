@@ -5,6 +5,7 @@ mod algorithms;
 mod drive_fault;
 mod laws;
 mod machine;
+mod making;
 mod ready;
 
 pub use algorithms::asks_grades;

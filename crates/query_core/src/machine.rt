@@ -12,6 +12,7 @@ ghost use Rattle.query_core.specs.Ready.{IsReady};
 ghost use Rattle.query_core.specs.Machines.{method_of, algorithm_of, state_of, MakesItsRun, IsMachineFor, IsLeftFor};
 
 use super::Memory;
+use super::making::{combined, fagins, no_random, restricted, threshold};
 use super::ready::Ready;
 use access_log::Transcript;
 use ca_core::Ca;
@@ -21,14 +22,14 @@ use nra_core::Nra;
 use query_text::Algorithm;
 use ranked_list::{Need, Row};
 use std::alloc::Global;
-use ta_core::{Early, Ta, Theta};
+use ta_core::{Halting, Ta};
 use zlist_core::Taz;
 
 /// A machine of the algorithm that a query names. It says which access it needs next, and is fed what
 /// that access gave.
 #[derive(Drop)]
 pub enum Machine {
-    /// Of the threshold algorithm.
+    /// Of the threshold algorithm, exact, within a factor or stopped early.
     Ta(Ta),
     /// Of the algorithm without random access.
     Nra(Nra),
@@ -36,10 +37,6 @@ pub enum Machine {
     Ca(Ca),
     /// Of Fagin's algorithm.
     Fa(Fa),
-    /// Of the threshold algorithm within a factor.
-    Theta(Theta),
-    /// Of the threshold algorithm stopped early.
-    Early(Early),
     /// Of the threshold algorithm over the lists that can be read in order.
     Taz(Taz),
 }
@@ -53,43 +50,17 @@ impl Machine {
         ensures begun { IfOk result (IsMachineFor ready.now) }
         ensures run { IfOk result MakesItsRun }
     {
-        let query = &ready.query;
-        let Ok(expr) = query.expr.copy(alloc) else {
+        let Ok(expr) = ready.query.expr.copy(alloc) else {
             return Err(Memory);
         };
-        let count = ready.count;
-        let room = query.room.unwrap_or(count);
-        let costs = query.costs_in_force();
-        match query.algorithm {
-            Algorithm::Ta => {
-                let machine = Ta::make(alloc, expr, query.k, count, room, costs)?;
-                Ok(Machine::Ta(machine))
-            }
-            Algorithm::Nra => {
-                let machine = Nra::make(alloc, expr, query.k, count, room, costs)?;
-                Ok(Machine::Nra(machine))
-            }
-            Algorithm::Ca => {
-                let machine = Ca::make(alloc, expr, query.k, count, room, costs)?;
-                Ok(Machine::Ca(machine))
-            }
-            Algorithm::Fa => {
-                let machine = Fa::make(alloc, expr, query.k, count, room, costs)?;
-                Ok(Machine::Fa(machine))
-            }
-            Algorithm::Theta { p, q } => {
-                let machine = Theta::make(alloc, expr, query.k, count, room, costs, p, q)?;
-                Ok(Machine::Theta(machine))
-            }
-            Algorithm::Early { depth } => {
-                let machine = Early::make(alloc, expr, query.k, count, room, costs, depth)?;
-                Ok(Machine::Early(machine))
-            }
-            Algorithm::Taz => {
-                let sorted = ready.sorted.as_slice();
-                let machine = Taz::make(alloc, expr, query.k, count, room, costs, sorted)?;
-                Ok(Machine::Taz(machine))
-            }
+        match ready.query.algorithm {
+            Algorithm::Ta => threshold(alloc, ready, expr, Halting::Exact),
+            Algorithm::Nra => no_random(alloc, ready, expr),
+            Algorithm::Ca => combined(alloc, ready, expr),
+            Algorithm::Fa => fagins(alloc, ready, expr),
+            Algorithm::Theta { p, q } => threshold(alloc, ready, expr, Halting::Within { p, q }),
+            Algorithm::Early { depth } => threshold(alloc, ready, expr, Halting::Early { depth }),
+            Algorithm::Taz => restricted(alloc, ready, expr),
         }
     }
 
@@ -105,8 +76,6 @@ impl Machine {
             Machine::Nra(machine) => machine.need(),
             Machine::Ca(machine) => machine.need(),
             Machine::Fa(machine) => machine.need(),
-            Machine::Theta(machine) => machine.need(),
-            Machine::Early(machine) => machine.need(),
             Machine::Taz(machine) => machine.need(),
         }
     }
@@ -125,8 +94,6 @@ impl Machine {
             Machine::Nra(machine) => machine.certain_next(list),
             Machine::Ca(machine) => machine.certain_next(list),
             Machine::Fa(_) => Need::Done,
-            Machine::Theta(machine) => machine.certain_next(list),
-            Machine::Early(machine) => machine.certain_next(list),
             Machine::Taz(_) => Need::Done,
         }
     }
@@ -143,8 +110,6 @@ impl Machine {
             Machine::Nra(machine) => machine.feed_row(row),
             Machine::Ca(machine) => machine.feed_row(row),
             Machine::Fa(machine) => machine.feed_row(row),
-            Machine::Theta(machine) => machine.feed_row(row),
-            Machine::Early(machine) => machine.feed_row(row),
             Machine::Taz(machine) => machine.feed_row(row),
         }
     }
@@ -165,8 +130,6 @@ impl Machine {
             }
             Machine::Ca(machine) => machine.feed_grade(grade),
             Machine::Fa(machine) => machine.feed_grade(grade),
-            Machine::Theta(machine) => machine.feed_grade(grade),
-            Machine::Early(machine) => machine.feed_grade(grade),
             Machine::Taz(machine) => machine.feed_grade(grade),
         }
     }
@@ -181,8 +144,6 @@ impl Machine {
             Machine::Nra(machine) => machine.transcript(),
             Machine::Ca(machine) => machine.transcript(),
             Machine::Fa(machine) => machine.transcript(),
-            Machine::Theta(machine) => machine.transcript(),
-            Machine::Early(machine) => machine.transcript(),
             Machine::Taz(machine) => machine.transcript(),
         }
     }
@@ -204,8 +165,6 @@ impl Machine {
             Machine::Nra(machine) => machine.answer(),
             Machine::Ca(machine) => machine.answer(),
             Machine::Fa(machine) => machine.answer(),
-            Machine::Theta(machine) => machine.answer(),
-            Machine::Early(machine) => machine.answer(),
             Machine::Taz(machine) => machine.answer(),
         }
     }
@@ -217,8 +176,6 @@ impl Machine {
             Machine::Nra(machine) => machine.let_go(),
             Machine::Ca(machine) => machine.let_go(),
             Machine::Fa(machine) => machine.let_go(),
-            Machine::Theta(machine) => machine.let_go(),
-            Machine::Early(machine) => machine.let_go(),
             Machine::Taz(machine) => machine.let_go(),
         }
     }

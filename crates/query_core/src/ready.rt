@@ -1,5 +1,8 @@
 //! Queries that are admitted.
 
+ghost use Rattle.std.specs.Prelude.{◌≡◌, ◌≤◌, unwrap_or};
+ghost use Rattle.query_core.specs.Ready.{IsReady};
+
 use query_text::Query;
 
 /// A query that is admitted over lists: contracts that take one ask for `IsReady`, which says that
@@ -18,4 +21,14 @@ pub struct Ready {
     /// Whether its lists can be read in order, in the order of the lists. Only `taz` goes by this: of every
     /// other algorithm the sources have to answer whatever it asks.
     pub sorted: Vec<bool>,
+}
+
+impl Ready {
+    /// How many objects it may see: as many as it states, and without that all.
+    pub(crate) fn room(&self) -> u32
+        ensures room { result ≡ unwrap_or self.now.query.room self.now.count }
+        ensures some { IsReady self.now → 1 ≤ result }
+    {
+        self.query.room.unwrap_or(self.count)
+    }
 }

@@ -1,5 +1,5 @@
 -- What a machine that is done answers.
-use Rattle.std.proofs.Common.{◌≡◌, ℕ, inl, inr, true, List, [], length, Contains, sym, subst, ◌∙◌}
+use Rattle.std.proofs.Common.{◌≡◌, ℕ, inl, inr, true, List, [], length, All, Contains, sym, subst, ◌∙◌}
 use Rattle.std.proofs.lemmas.Bool.{cases_Bool, cases_lt}
 use Rattle.ranked_list.specs.declared.row.Row.{Row}
 use Rattle.ranked_list.specs.declared.item.Item.{Item}
@@ -14,14 +14,15 @@ use Rattle.topk_theory.proofs.AgreementLists.{all_from_members, contains_map_fro
 use Rattle.access_log.specs.Log.{AgreesWith}
 use Rattle.machine_base.specs.declared.base.Base.{Base}
 use Rattle.machine_base.specs.Base.{shown}
+use Rattle.machine_base.specs.Machine.{MachineState, AreExact}
 use Rattle.machine_base.specs.Board.{OnBoard}
 use Rattle.machine_base.proofs.Held.{held_asked}
 use Rattle.ta_core.specs.declared.halting.Halting.{Halting}
 use Rattle.ta_core.specs.Halting.{Halt, halting_depth, halting_answer, passes_by}
 use Rattle.ta_core.specs.Reading.{RowProgress, first_or_zero, need_at}
 use Rattle.ta_core.specs.Kept.{Keeps}
-use Rattle.ta_core.specs.Machine.{IsHaltingAnswer}
 use Rattle.ta_core.proofs.HaltingLaws.{IsHalting, halting_of, own}
+use Rattle.ta_core.proofs.Rules.{rule_answer}
 use Rattle.ta_core.proofs.BoardSteps.{depth_first, first_of_depth}
 use Rattle.ta_core.proofs.Runs.{need_in_row, need_after_row}
 use Rattle.ta_core.proofs.Steps.{made_of_reading}
@@ -42,10 +43,15 @@ done_from_need m r e =
     not_grade : (l o : ℕ) → Grade l o ≡ Done → ⊥
     not_grade l o e = cc
 
+-- the items are the answer by the rule alone, and their objects were seen
+pub record IsRuleAnswer (rule : Halting) (t : MachineState) (items : List Item) : Type 0 where
+  pub exact : AreExact (rule_answer rule) t items
+  pub seen : All (Contains (seen_objects t.log.accesses)) (item_objects items)
+
 -- the first k of the board, once the run is made
 pub answers : (rule : Halting) (base : Base) (board : Held) (r : RowProgress) (items : List Item) → Keeps (passes_by rule) base board r
     → need_at base.transcript.lists r ≡ Done → ((others : List Item) → IsFirstK board.k board.items others → others ≡ items)
-    → IsHaltingAnswer (record { state = shown base (need_at base.transcript.lists r); halting = rule }) items
+    → IsRuleAnswer rule (shown base (need_at base.transcript.lists r)) items
 answers rule base board r items kept done only =
     let V = value base.expr in
     let halt : Halt = record { k = base.k; passes = passes_by rule } in

@@ -30,12 +30,13 @@ use Rattle.machine_base.proofs.Certain.{met_in_run, row_met}
 use Rattle.machine_base.proofs.FirstUnknown.{Names, first_unknown_names}
 use Rattle.machine_base.proofs.Held.{held_asked}
 use Rattle.ta_core.specs.declared.halting.Halting.{Halting}
-use Rattle.ta_core.specs.Halting.{Rule, Halt, halts_at, halting_depth, halting_run, passes_by, run_halting}
+use Rattle.ta_core.specs.Halting.{Rule, Halt, halts_at, halting_depth, halting_run, passes_by}
 use Rattle.ta_core.specs.Reading.{RowProgress, first_or_zero, need_at}
 use Rattle.ta_core.specs.OnTable.{asks, OnRow, OnAsks}
 use Rattle.ta_core.specs.Kept.{Keeps}
 use Rattle.ta_core.specs.Certain.{left_of_seen}
-use Rattle.ta_core.specs.Machine.{ThresholdState}
+use Rattle.ta_core.specs.Machine.{ThresholdState, run_halting}
+use Rattle.ta_core.proofs.Rules.{rule_run, rule_foresees}
 use Rattle.ta_core.proofs.HaltingLaws.{IsHalting, halting_of, own}
 use Rattle.ta_core.proofs.Rows.{reads_rows, stands_object}
 use Rattle.ta_core.proofs.Steps.{row_of_reading, asks_of_reading}
@@ -119,7 +120,7 @@ grade_certain V halt n D A r object list monotone asked on seen l unknown =
 
 -- so the row of a list is foreseen in a row that isn't whole
 row_foreseen : (rule : Halting) (base : Base) (board : Held) (r : RowProgress) (list : ℕ) (need : Need) → Keeps (passes_by rule) base board r → r.done ≡ false
-    → length r.objects < base.transcript.lists → list < base.transcript.lists → Foresees (run_halting rule) (shown base need) list (needs.Row list r.depth)
+    → length r.objects < base.transcript.lists → list < base.transcript.lists → Foresees (rule_run rule) (shown base need) list (needs.Row list r.depth)
 row_foreseen rule base board r list need kept going short l =
     let V = value base.expr in
     let halt : Halt = record { k = base.k; passes = passes_by rule } in
@@ -139,7 +140,7 @@ row_foreseen rule base board r list need kept going short l =
 -- and after it a grade that a seen object misses
 grade_foreseen : (rule : Halting) (base : Base) (board : Held) (r : RowProgress) (list : ℕ) (need found : Need) → Keeps (passes_by rule) base board r → r.done ≡ false
     → base.transcript.lists ≤ length r.objects → list < base.transcript.lists → Names base.transcript.accesses (seen_objects base.transcript.accesses) list found
-    → Foresees (run_halting rule) (shown base need) list found
+    → Foresees (rule_run rule) (shown base need) list found
 grade_foreseen rule base board r list need (needs.Row other depth) kept going whole l named = absurd named
 grade_foreseen rule base board r list need (needs.Grade other object) kept going whole l named =
     let V = value base.expr in
@@ -160,22 +161,22 @@ grade_foreseen rule base board r list need needs.Done kept going whole l named =
 
 -- what is left beside the seen objects is foreseen
 left_is_foreseen : (rule : Halting) (base : Base) (board : Held) (r : RowProgress) (list : ℕ) → Keeps (passes_by rule) base board r → list < base.transcript.lists
-    → (let t = shown base (need_at base.transcript.lists r) in Foresees (run_halting rule) t list (left_of_seen t list))
+    → (let t = shown base (need_at base.transcript.lists r) in Foresees (rule_run rule) t list (left_of_seen t list))
 left_is_foreseen rule base board r list kept l =
     let m : ℕ = base.transcript.lists in
     let seen : List ℕ = seen_objects base.transcript.accesses in
     elim (cases_Bool r.done) [
       | inl done ↦
-          subst (λ need. Foresees (run_halting rule) (shown base need) list (left_of_seen (shown base need) list)) (sym (need_when_done m r done))
+          subst (λ need. Foresees (rule_run rule) (shown base need) list (left_of_seen (shown base need) list)) (sym (need_when_done m r done))
           (record { certain = record { met = λ D agrees. tt }; of = tt })
       | inr going ↦ elim (cases_lt (length r.objects) m) [
         | inl short ↦
             let row : Need = needs.Row (length r.objects) r.depth in
-            subst (λ need. Foresees (run_halting rule) (shown base need) list (left_of_seen (shown base need) list)) (sym (need_in_row m r going short))
+            subst (λ need. Foresees (rule_run rule) (shown base need) list (left_of_seen (shown base need) list)) (sym (need_in_row m r going short))
             (row_foreseen rule base board r list row kept going short l)
         | inr whole ↦
             let grade : Need = needs.Grade (length r.grades) (first_or_zero r.waiting) in
-            subst (λ need. Foresees (run_halting rule) (shown base need) list (left_of_seen (shown base need) list)) (sym (need_after_row m r going whole))
+            subst (λ need. Foresees (rule_run rule) (shown base need) list (left_of_seen (shown base need) list)) (sym (need_after_row m r going whole))
             (grade_foreseen rule base board r list grade (first_unknown base.transcript.accesses seen list) kept going whole l (first_unknown_names base.transcript.accesses seen list))
       ]
     ]
@@ -248,7 +249,8 @@ pub state_foresees : (rule : Halting) (base : Base) (board : Held) (r : RowProgr
     → record { state = shown base (need_at base.transcript.lists r); halting = rule } ≡ t → list < t.state.log.lists
     → Foresees (run_halting t.halting) t.state list (left_of_seen t.state list)
 state_foresees rule base board r list t kept is =
-    subst (λ (u : ThresholdState). list < u.state.log.lists → Foresees (run_halting u.halting) u.state list (left_of_seen u.state list)) is (λ l. left_is_foreseen rule base board r list kept l)
+    subst (λ (u : ThresholdState). list < u.state.log.lists → Foresees (run_halting u.halting) u.state list (left_of_seen u.state list)) is
+    (λ l. let t = shown base (need_at base.transcript.lists r) in rule_foresees rule t list (left_of_seen t list) (left_is_foreseen rule base board r list kept l))
 
 pub state_left : (rule : Halting) (base : Base) (board : Held) (r : RowProgress) (list : ℕ) (need : Need) (t : ThresholdState) → Keeps (passes_by rule) base board r
     → record { state = shown base (need_at base.transcript.lists r); halting = rule } ≡ t → list < t.state.log.lists → need ≡ t.state.need

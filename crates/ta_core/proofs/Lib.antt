@@ -12,10 +12,8 @@ pub mod Sound
 pub mod Feeds
 pub mod Calls
 pub mod Answering
-pub mod ExactLaws
 pub mod Unasked
--- The rules of the threshold machine as those of the two algorithms, and their answers.
+-- The rules as the algorithms that halt by them, and their answers.
 pub mod Rules
 pub mod Answers
 pub mod Certain
-mod CertainRules

@@ -1,29 +1,29 @@
--- A threshold machine with the rule of a factor makes the run within it, and one with the early rule the run that stops early.
+-- A machine that halts by a rule makes the run of the algorithm that halts so.
 use Rattle.std.proofs.Common.{◌≡◌, inl, inr, ℕ, zero, suc, ◌+◌, ◌-◌, ◌≤◌, ◌||◌, ◌&&◌, Bool, true, false, cond, List, length, count_by, nat_le, leb-true, refl, sym, ap, ap₂, subst, ◌∙◌, arith}
 use Rattle.std.proofs.lemmas.Bool.{cases_Bool, le-leb}
 use Rattle.std.proofs.lemmas.List.Sums.{count_by-le-length}
 use Rattle.std.proofs.Math.Bool.{or-false}
 use Rattle.ranked_list.specs.declared.row.Row.{Row}
+use Rattle.ranked_list.specs.declared.need.Need.{Need}
 use Rattle.topk_theory.specs.Aggregate.{objects_of, aggregate}
 use Rattle.topk_theory.specs.Threshold.{objects_to, threshold_at, ta_stop, ta_run_to, least_from}
-use Rattle.topk_theory.specs.Asked.{Asked}
+use Rattle.topk_theory.specs.Asked.{Asked, Run, Answering}
 use Rattle.topk_theory.specs.Machine.{IsAt}
 use Rattle.topk_theory.proofs.ThresholdLists.{count_all}
-use Rattle.theta_theory.specs.Nearby.{first_at, has_enough, early_stop, early_depth, within_run, early_stopped_run, early_stopped_answer}
-use Rattle.machine_base.specs.Machine.{MakesRun, asked_of}
+use Rattle.theta_theory.specs.Nearby.{first_at, has_enough, early_stop, early_depth, early_stopped_run, early_stopped_answer}
+use Rattle.machine_base.specs.Machine.{MachineState, MakesRun, asked_of}
+use Rattle.machine_base.specs.Certain.{Meets, Foresees}
 use Rattle.ta_core.specs.declared.halting.Halting.{Halting}
-use Rattle.ta_core.specs.declared.halting.Halting.TheVariants.{Within, Early}
-use Rattle.ta_core.specs.Halting.{halts_at, halting_depth, passes_by, run_halting, answer_halting}
-use Rattle.ta_core.specs.Machine.{ThresholdState, MakesHaltingRun}
-use Rattle.ta_core.specs.MachineWithin.{ThetaState, EarlyState, MakesThetaRun, MakesEarlyRun}
+use Rattle.ta_core.specs.declared.halting.Halting.TheVariants.{Exact, Within, Early}
+use Rattle.ta_core.specs.Halting.{halts_at, halting_depth, halting_run, halting_answer, passes_by}
+use Rattle.ta_core.specs.Machine.{run_halting}
 
--- ---- within a factor the rule is the same
-pub within_makes : (t : ThresholdState) (p q : ℕ) → t.halting ≡ Within p q → MakesHaltingRun t → MakesRun (within_run (record { p = p; q = q })) t.state
-within_makes t p q rule makes = subst (λ (halting : Halting). MakesRun (run_halting halting) t.state) rule makes
+-- the run and the answer by a rule alone
+abbrev pub rule_run : Halting → Run
+rule_run rule asked D = halting_run asked.value (record { k = asked.k; passes = passes_by rule }) D
 
-pub theta_makes : (t : ThresholdState) (p q : ℕ) (s : ThetaState) → t.halting ≡ Within p q → record { state = t.state; factor = record { p = p; q = q } } ≡ s → MakesHaltingRun t
-    → MakesThetaRun s
-theta_makes t p q s rule is makes = subst MakesThetaRun is (within_makes t p q rule makes)
+abbrev pub rule_answer : Halting → Answering
+rule_answer rule asked D = halting_answer asked.value (record { k = asked.k; passes = passes_by rule }) D
 
 -- ---- early, an object passes where the depth is reached or its aggregate is; so at least k do where the algorithm stops early
 early_test : (V : List ℕ → ℕ) (k : ℕ) (D : List (List Row)) (depth : ℕ) (late : Bool)
@@ -57,23 +57,29 @@ early_depths : (V : List ℕ → ℕ) (k from : ℕ) (D : List (List Row))
 early_depths V k from D =
     least_from_same (halts_at V (record { k = k; passes = passes_by (Early from) }) D) (early_stop V k from D) (length (objects_of D) - 1) 1 (λ depth. early_halts V k from D depth)
 
-pub early_run_is : (asked : Asked) (from : ℕ) (D : List (List Row)) → run_halting (Early from) asked D ≡ early_stopped_run from asked D
+early_run_is : (asked : Asked) (from : ℕ) (D : List (List Row)) → rule_run (Early from) asked D ≡ early_stopped_run from asked D
 early_run_is asked from D = ap (ta_run_to D) (early_depths asked.value asked.k from D)
 
-pub early_answer_is : (asked : Asked) (from : ℕ) (D : List (List Row)) → answer_halting (Early from) asked D ≡ early_stopped_answer from asked D
+pub early_answer_is : (asked : Asked) (from : ℕ) (D : List (List Row)) → rule_answer (Early from) asked D ≡ early_stopped_answer from asked D
 early_answer_is asked from D = ap (first_at asked.value asked.k D) (early_depths asked.value asked.k from D)
 
-pub stopped_makes : (t : ThresholdState) (from : ℕ) → t.halting ≡ Early from → MakesHaltingRun t → MakesRun (early_stopped_run from) t.state
-stopped_makes t from rule makes =
-    let own : MakesRun (run_halting (Early from)) t.state = subst (λ (halting : Halting). MakesRun (run_halting halting) t.state) rule makes in
-    record {
-      posed = own.posed;
-      consistent = own.consistent;
-      on_run = λ D agrees. subst (λ run. IsAt run t.state.log.accesses t.state.need) (early_run_is (asked_of t.state) from D) (own.on_run D agrees);
-      served = own.served;
-      tame = own.tame;
-    }
+-- ---- each rule's run is that of its algorithm
+run_is : (rule : Halting) (asked : Asked) (D : List (List Row)) → rule_run rule asked D ≡ run_halting rule asked D
+run_is Exact asked D = refl
+run_is (Within p q) asked D = refl
+run_is (Early from) asked D = early_run_is asked from D
 
-pub early_makes : (t : ThresholdState) (from : ℕ) (s : EarlyState) → t.halting ≡ Early from → record { state = t.state; depth = from } ≡ s → MakesHaltingRun t
-    → MakesEarlyRun s
-early_makes t from s rule is makes = subst MakesEarlyRun is (stopped_makes t from rule makes)
+pub rule_makes : (rule : Halting) (t : MachineState) → MakesRun (rule_run rule) t → MakesRun (run_halting rule) t
+rule_makes rule t own = record {
+  posed = own.posed;
+  consistent = own.consistent;
+  on_run = λ D agrees. subst (λ run. IsAt run t.log.accesses t.need) (run_is rule (asked_of t) D) (own.on_run D agrees);
+  served = own.served;
+  tame = own.tame;
+}
+
+pub rule_foresees : (rule : Halting) (t : MachineState) (list : ℕ) (need : Need) → Foresees (rule_run rule) t list need → Foresees (run_halting rule) t list need
+rule_foresees rule t list need own = record {
+  certain = record { met = λ D agrees. subst (λ run. Meets run need) (run_is rule (asked_of t) D) (own.certain.met D agrees) };
+  of = own.of;
+}

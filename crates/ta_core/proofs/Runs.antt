@@ -16,11 +16,12 @@ use Rattle.machine_base.specs.Base.{shown}
 use Rattle.machine_base.proofs.Held.{held_asked}
 use Rattle.machine_base.proofs.Makes.{makes_run, at_end}
 use Rattle.ta_core.specs.declared.halting.Halting.{Halting}
-use Rattle.ta_core.specs.Halting.{Rule, Halt, halting_run, passes_by, run_halting}
+use Rattle.ta_core.specs.Halting.{Rule, Halt, halting_run, passes_by}
 use Rattle.ta_core.proofs.HaltingLaws.{halting_of}
 use Rattle.ta_core.specs.Reading.{RowProgress, first_or_zero, need_at}
 use Rattle.ta_core.specs.Kept.{Keeps}
-use Rattle.ta_core.specs.Machine.{MakesHaltingRun}
+use Rattle.ta_core.specs.Machine.{MakesItsRun}
+use Rattle.ta_core.proofs.Rules.{rule_run, rule_makes}
 use Rattle.ta_core.proofs.NeedSteps.{row_next, grade_needed}
 use Rattle.ta_core.proofs.Steps.{row_of_reading, asks_of_reading, made_of_reading}
 use Rattle.ta_core.proofs.Sound.{waiting_seen}
@@ -93,9 +94,11 @@ tame_need passes base board r kept =
     ]
 
 pub kept_makes : (rule : Halting) (base : Base) (board : Held) (r : RowProgress) → Keeps (passes_by rule) base board r
-    → MakesHaltingRun (record { state = shown base (need_at base.transcript.lists r); halting = rule })
+    → MakesItsRun (record { state = shown base (need_at base.transcript.lists r); halting = rule })
 kept_makes rule base board r kept =
-    makes_run (run_halting rule) base (need_at base.transcript.lists r) kept.base (λ D agrees. needed (passes_by rule) base board r D kept agrees) (tame_need (passes_by rule) base board r kept)
+    let need = need_at base.transcript.lists r in
+    rule_makes rule (shown base need)
+    (makes_run (rule_run rule) base need kept.base (λ D agrees. needed (passes_by rule) base board r D kept agrees) (tame_need (passes_by rule) base board r kept))
 
 -- the depth is one of the tables', so it is small
 pub kept_depth : (passes : Rule) (base : Base) (board : Held) (r : RowProgress) → Keeps passes base board r → r.done ≡ false → r.depth ≤ base.transcript.count

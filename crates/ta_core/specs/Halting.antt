@@ -1,11 +1,10 @@
--- When a threshold machine halts, and what it reads and answers then, on a whole table. Depths count from 1.
+-- When the machine halts, and what it reads and answers then, on a whole table. Depths count from 1.
 use Rattle.std.specs.Prelude.{◌≡◌, ◌≤◌, ◌-◌, ◌*◌, ◌||◌, ℕ, Bool, true, List, length, map, count_by, nat_le}
 use Rattle.ranked_list.specs.declared.row.Row.{Row}
 use Rattle.ranked_list.specs.declared.item.Item.{Item}
 use Rattle.topk_theory.specs.Order.{first_k}
 use Rattle.topk_theory.specs.declared.access.Access.{Access}
 use Rattle.topk_theory.specs.Aggregate.{objects_of, aggregate}
-use Rattle.topk_theory.specs.Asked.{Run, Answering}
 use Rattle.topk_theory.specs.Threshold.{objects_to, threshold_at, least_from, scored, ta_run_to}
 use Rattle.ta_core.specs.declared.halting.Halting.{Halting}
 use Rattle.ta_core.specs.declared.halting.Halting.TheVariants.{Exact, Within, Early}
@@ -52,10 +51,3 @@ abbrev pub IsFair : Halting → Type 0
 IsFair Exact = Unit {0}
 IsFair (Within p q) = q ≤ p
 IsFair (Early from) = Unit {0}
-
--- the run and the answer of the threshold algorithm that halts so
-abbrev pub run_halting : Halting → Run
-run_halting rule asked D = halting_run asked.value (record { k = asked.k; passes = passes_by rule }) D
-
-abbrev pub answer_halting : Halting → Answering
-answer_halting rule asked D = halting_answer asked.value (record { k = asked.k; passes = passes_by rule }) D

@@ -5,6 +5,4 @@ pub mod Shown
 pub mod OnTable
 pub mod Kept
 pub mod Machine
--- What the machines that stop within a factor and early make and answer.
-pub mod MachineWithin
 pub mod Certain

@@ -1,49 +1,55 @@
-//! The machine of the threshold algorithm, which halts where k seen objects reach the threshold.
+//! The machine of the threshold algorithm, whatever its rule of halting.
 
+use super::following::{follow, score};
 use super::halting::Halting;
-use super::machine::ThresholdMachine;
-use access_log::Transcript;
+use super::progress::Progress;
+use access_log::{Access, Transcript};
+use best_k::Board;
 use limits::MAX_OBJECTS;
-use machine_base::{Answer, CoreFault, Memory, Need};
+use machine_base::{Answer, Base, CoreFault, Memory, Need, first_unknown};
 use monotone_fn::{Costs, Expr};
 use ranked_list::Row;
 use std::alloc::Global;
 use std::marker::Model;
 
-/// The threshold algorithm on one query. It says which access it needs next, and is fed what that
-/// access gave. Contracts see it as a `MachineState`.
+/// The threshold algorithm on one query: exact, within a factor or stopped early, by its rule of halting. It says which access it needs
+/// next, and is fed what that access gave. Contracts see it as a `ThresholdState`.
 #[derive(Drop)]
 pub struct Ta {
-    machine: ThresholdMachine,
+    halting: Halting,
+    base: Base,
+    board: Board,
+    progress: Progress,
 }
 
 impl Model for Ta {
-    ghost use Rattle.std.specs.Prelude.{◌≡◌};
     ghost use Rattle.std.specs.Coded.{codes};
     ghost use Rattle.monotone_fn.specs.Code.{tree_code};
-    ghost use Rattle.machine_base.specs.Machine.{MachineState};
+    ghost use Rattle.ta_core.specs.Machine.{ThresholdState};
 
-    ghost Value = { MachineState };
+    ghost Value = { ThresholdState };
 
     ghost coded = { Prim.hlevel (codes, tree_code) };
 
-    ghost view = { λ a. a.machine.state };
+    ghost use Rattle.ta_core.specs.Reading.{need_at};
+    ghost use Rattle.ta_core.specs.Shown.{reading_of};
+    ghost use Rattle.machine_base.specs.Base.{shown};
+    ghost use Rattle.ta_core.specs.Kept.{Stands};
 
-    ghost use Rattle.ta_core.specs.declared.halting.Halting.TheVariants.{Exact};
-    ghost use Rattle.ta_core.specs.Machine.{MakesHaltingRun};
+    ghost view = { λ a. record { state = shown a.base (need_at a.base.transcript.lists (reading_of a.progress)); halting = a.halting } };
 
-    ghost invariant = { λ a. (a.machine.halting ≡ Exact) × MakesHaltingRun a.machine };
+    ghost invariant = { λ a. Stands a.halting a.base a.board (reading_of a.progress) };
 }
 
 impl Ta {
     ghost use Rattle.std.specs.Prelude.{◌≡◌, ◌≤◌, ◌<◌, IfOk};
+    ghost use Rattle.machine_base.specs.Machine.{IsBegun, IsInRange, MayBeNextRow, MayBeNextGrade, RowFed, GradeFed, IsSameLog};
     ghost use Rattle.machine_base.specs.Certain.{Foresees};
     ghost use Rattle.ta_core.specs.Certain.{left_of_seen};
-    ghost use Rattle.topk_theory.specs.Asked.{threshold_run};
-    ghost use Rattle.machine_base.specs.Machine.{IsBegun, IsInRange, MayBeNextRow, MayBeNextGrade, RowFed, GradeFed, IsSameLog};
-    ghost use Rattle.ta_core.specs.Machine.{MakesItsRun, IsAnswer};
+    ghost use Rattle.ta_core.specs.Halting.{IsFair};
+    ghost use Rattle.ta_core.specs.Machine.{run_halting, MakesItsRun, IsAnswer};
 
-    /// A machine for the first `k` of `count` objects, that sees `room` of them at most. No other call
+    /// A machine for the first `k` of `count` objects that halts by a rule, and sees `room` of them at most. No other call
     /// but `answer` takes memory.
     pub fn make(
         alloc: Global,
@@ -52,83 +58,145 @@ impl Ta {
         count: u32,
         room: u32,
         costs: Costs,
+        halting: Halting,
     ) -> Result<Ta, Memory>
         requires asked { 1 ≤ k }
         requires fits { k ≤ count }
         requires counted { count ≤ MAX_OBJECTS }
         requires roomy { 1 ≤ room }
-        ensures begun { IfOk result (IsBegun expr k count room costs) }
+        requires fair { IsFair halting }
+        ensures begun { IfOk result (λ machine. IsBegun expr k count room costs machine.state) }
+        ensures rule { IfOk result (λ machine. machine.halting ≡ halting) }
         ensures run { IfOk result MakesItsRun }
     {
-        let made = ThresholdMachine::make(alloc, expr, k, count, room, costs, Halting::Exact);
-        let machine = made?;
-        Ok(Ta { machine })
+        let Ok(board) = Board::make(alloc, k, room.min(count)) else {
+            expr.let_go();
+            return Err(Memory);
+        };
+        let Ok(base) = Base::make(alloc, expr, k, count, room, costs) else {
+            board.let_go();
+            return Err(Memory);
+        };
+        Ok(Ta {
+            halting,
+            base,
+            board,
+            progress: Progress::at(1),
+        })
     }
 
     /// What is needed next.
     pub fn need(&self) -> Need
-        ensures need { result ≡ self.now.need }
+        ensures need { result ≡ self.now.state.need }
         ensures run { MakesItsRun self.now }
-        ensures range { IsInRange self.now.log result }
+        ensures range { IsInRange self.now.state.log result }
     {
-        self.machine.need()
+        self.progress.need(self.base.transcript.lists())
     }
 
     /// What is certain of a list, as the run makes it on every table that agrees with the transcript: the row there at the depth that is read,
     /// after the row the grade of the first seen object that misses it, and nothing where none does.
+    ///
+    /// *Cost*: a look at each object that waits.
     pub fn certain_next(&self, list: u8) -> Need
-        requires { list < self.now.log.lists }
-        ensures certain { Foresees threshold_run self.now list result }
-        ensures left { result ≡ left_of_seen self.now list }
+        requires { list < self.now.state.log.lists }
+        ensures certain { Foresees (run_halting self.now.halting) self.now.state list result }
+        ensures left { result ≡ left_of_seen self.now.state list }
     {
-        self.machine.certain_next(list)
+        match self.need() {
+            Need::Row { depth, .. } => Need::Row { list, depth },
+            Need::Grade { .. } => {
+                let waiting = self.progress.waiting.as_slice();
+                first_unknown(&self.base.transcript, waiting, 0, list)
+            }
+            Need::Done => Need::Done,
+        }
     }
 
     /// Tells the row that is needed. Where it is refused nothing has changed. Takes no memory.
     ///
     /// *Cost*: `Base::tell`, and one `Board::put` for an object. Takes no memory.
     pub fn feed_row(&mut self, row: Row) -> Result<(), CoreFault>
-        requires { MayBeNextRow self.old.log self.old.need row }
-        ensures fed { RowFed row self.old self.new result }
+        requires { MayBeNextRow self.old.state.log self.old.state.need row }
+        ensures fed { RowFed row self.old.state self.new.state result }
+        ensures rule { self.new.halting ≡ self.old.halting }
         ensures run { MakesItsRun self.new }
     {
-        self.machine.feed_row(row)
+        let is_new = self.base.test_room(row.object)?;
+        self.base.tell(Access::Sorted {
+            list: self.progress.objects.len() as u8,
+            object: row.object,
+            grade: row.grade,
+        });
+        self.progress
+            .add_row(self.base.transcript.lists(), row, is_new);
+        score(&self.base, &mut self.board, &self.progress);
+        follow(self.halting, &self.base, &self.board, &mut self.progress);
+        Ok(())
     }
 
     /// Tells the grade that is needed. Takes no memory.
     ///
     /// *Cost*: `Base::tell`, and one `Board::put` for an object. Takes no memory.
     pub fn feed_grade(&mut self, grade: u32)
-        requires { MayBeNextGrade self.old.log self.old.need grade }
-        ensures fed { GradeFed grade self.old self.new }
+        requires { MayBeNextGrade self.old.state.log self.old.state.need grade }
+        ensures fed { GradeFed grade self.old.state self.new.state }
+        ensures rule { self.new.halting ≡ self.old.halting }
         ensures run { MakesItsRun self.new }
     {
-        self.machine.feed_grade(grade);
+        self.base.tell(Access::Random {
+            list: self.progress.grades.len() as u8,
+            object: self.progress.waiting[0],
+            grade,
+        });
+        self.progress.add_grade(grade);
+        score(&self.base, &mut self.board, &self.progress);
+        follow(self.halting, &self.base, &self.board, &mut self.progress);
     }
 
     /// The accesses so far.
     pub fn transcript(&self) -> &Transcript
-        ensures log { result.now ≡ self.now.log }
+        ensures log { result.now ≡ self.now.state.log }
         ensures run { MakesItsRun self.now }
     {
-        self.machine.transcript()
+        &self.base.transcript
     }
 
-    /// The answer, once nothing is needed: the first k objects by aggregate falling, then by id rising,
-    /// each with its aggregate as both bounds, and the transcript.
+    /// The answer, once nothing is needed: the first k of the seen objects by aggregate falling, then by id rising, each with its aggregate as
+    /// both bounds, and the transcript. On every table that agrees with that they are a top k; within a factor, no aggregate outside is more
+    /// than the factor times one inside; and stopped early, no more than the guaranteed factor (`early_guarantee` of the transcript and these
+    /// objects) times one inside.
     pub fn answer(self) -> Result<Answer, Memory>
-        requires { self.need ≡ Need.Done }
+        requires { self.state.need ≡ Need.Done }
         ensures run { MakesItsRun self }
         ensures items { IfOk result (λ answer. IsAnswer self answer.items) }
-        ensures transcript { IfOk result (λ answer. IsSameLog answer.transcript self.log) }
+        ensures transcript { IfOk result (λ answer. IsSameLog answer.transcript self.state.log) }
     {
-        let Ta { machine } = self;
-        machine.answer()
+        let Ta {
+            halting: _,
+            base,
+            board,
+            progress: _,
+        } = self;
+        let transcript = base.into_transcript();
+        match board.first() {
+            Ok(items) => Ok(Answer { items, transcript }),
+            Err(_) => {
+                transcript.let_go();
+                Err(Memory)
+            }
+        }
     }
 
     /// Lets the machine go, before it has its answer. Who owns one lets it go by this call.
     pub fn let_go(self) {
-        let Ta { machine } = self;
-        machine.let_go();
+        let Ta {
+            halting: _,
+            base,
+            board,
+            progress: _,
+        } = self;
+        base.let_go();
+        board.let_go();
     }
 }

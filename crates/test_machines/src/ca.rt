@@ -4,7 +4,6 @@ use super::cases::{
     Case, EVEN, FaultCase, STRANGE, STRANGERS, THREE, Wanted, first_wrong, first_wrong_fault,
 };
 use super::none_is_wrong;
-use ca_core::Ca;
 use machine_base::CoreFault;
 use test_support::{Lists, item_row, random_row};
 
@@ -115,7 +114,7 @@ const CASES: &[Case] = &[
 /// Answers, accesses and figures.
 #[test]
 fn answers_by_hand(rt: HostRuntime) {
-    none_is_wrong(&rt, first_wrong::<Ca>(rt.alloc(), CASES));
+    none_is_wrong(&rt, first_wrong(rt.alloc(), CASES));
 }
 
 /// Queries, their lists, and why a row is refused that is one object too many: for the lists, and for the room that was stated.
@@ -130,5 +129,5 @@ const FAULTS: &[FaultCase] = &[
 
 #[test]
 fn refuses_by_name(rt: HostRuntime) {
-    none_is_wrong(&rt, first_wrong_fault::<Ca>(rt.alloc(), FAULTS));
+    none_is_wrong(&rt, first_wrong_fault(rt.alloc(), FAULTS));
 }

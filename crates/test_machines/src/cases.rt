@@ -1,7 +1,7 @@
 //! Queries with what is wanted of them.
 
 use access_log::{Access, Transcript};
-use machine_base::{Answer, CoreFault, Driven};
+use machine_base::{Answer, CoreFault};
 use monotone_fn::Costs;
 use ranked_list::Item;
 use std::alloc::Global;
@@ -103,15 +103,15 @@ fn are_accesses(transcript: &Transcript, wanted: Wanted) -> bool {
 }
 
 /// Whether an answer is as it is wanted.
-pub fn is_as(answer: &Answer, case: &Case) -> bool {
+fn is_as(answer: &Answer, case: &Case) -> bool {
     answer.items.iter().as_slice() == case.items
         && are_figures(&answer.transcript, &case.costs, &case.figures)
         && are_accesses(&answer.transcript, case.accesses)
 }
 
-/// Whether a machine answers a query as it is wanted.
-fn is_answered<M: Driven>(alloc: Global, case: &Case) -> bool {
-    match run::<M>(alloc, case.text, case.lists) {
+/// Whether a query is answered as it is wanted.
+fn is_answered(alloc: Global, case: &Case) -> bool {
+    match run(alloc, case.text, case.lists) {
         Ok(answer) => {
             let is_so = is_as(&answer, case);
             let_go(answer);
@@ -121,10 +121,10 @@ fn is_answered<M: Driven>(alloc: Global, case: &Case) -> bool {
     }
 }
 
-/// The number of the first query that a machine answers otherwise.
-pub fn first_wrong<M: Driven>(alloc: Global, cases: &[Case]) -> Option<usize> {
+/// The number of the first query that is answered otherwise.
+pub fn first_wrong(alloc: Global, cases: &[Case]) -> Option<usize> {
     for (number, case) in cases.iter().enumerate() {
-        if !is_answered::<M>(alloc, case) {
+        if !is_answered(alloc, case) {
             return Some(number);
         }
     }
@@ -134,9 +134,9 @@ pub fn first_wrong<M: Driven>(alloc: Global, cases: &[Case]) -> Option<usize> {
 /// A query's text, its lists, and why a row of them is refused.
 pub type FaultCase = (&'static str, Lists<'static>, CoreFault);
 
-/// Why a machine refuses a row, if it does.
-fn fault_of<M: Driven>(alloc: Global, text: &str, lists: Lists<'_>) -> Option<CoreFault> {
-    match run::<M>(alloc, text, lists) {
+/// Why a row is refused, if one is.
+fn fault_of(alloc: Global, text: &str, lists: Lists<'_>) -> Option<CoreFault> {
+    match run(alloc, text, lists) {
         Ok(answer) => {
             let_go(answer);
             None
@@ -146,10 +146,10 @@ fn fault_of<M: Driven>(alloc: Global, text: &str, lists: Lists<'_>) -> Option<Co
     }
 }
 
-/// The number of the first query of which a machine refuses no row, or refuses it otherwise.
-pub fn first_wrong_fault<M: Driven>(alloc: Global, cases: &[FaultCase]) -> Option<usize> {
+/// The number of the first query of which no row is refused, or one otherwise.
+pub fn first_wrong_fault(alloc: Global, cases: &[FaultCase]) -> Option<usize> {
     for (number, (text, lists, fault)) in cases.iter().enumerate() {
-        if fault_of::<M>(alloc, text, lists) != Some(*fault) {
+        if fault_of(alloc, text, lists) != Some(*fault) {
             return Some(number);
         }
     }

@@ -6,7 +6,6 @@ use super::cases::{
 use super::none_is_wrong;
 use access_log::Access;
 use machine_base::CoreFault;
-use nra_core::Nra;
 use test_support::{Lists, item_row, sorted_row};
 
 /// The first object of list A is ahead of all others before its grade in list B is known.
@@ -78,7 +77,7 @@ const CASES: &[Case] = &[
 /// Answers, accesses and figures.
 #[test]
 fn answers_by_hand(rt: HostRuntime) {
-    none_is_wrong(&rt, first_wrong::<Nra>(rt.alloc(), CASES));
+    none_is_wrong(&rt, first_wrong(rt.alloc(), CASES));
 }
 
 /// Queries, their lists, and why a row is refused that is one object too many: for the lists, and for the room that was stated.
@@ -94,5 +93,5 @@ const FAULTS: &[FaultCase] = &[
 
 #[test]
 fn refuses_by_name(rt: HostRuntime) {
-    none_is_wrong(&rt, first_wrong_fault::<Nra>(rt.alloc(), FAULTS));
+    none_is_wrong(&rt, first_wrong_fault(rt.alloc(), FAULTS));
 }

@@ -7,7 +7,6 @@ use super::none_is_wrong;
 use access_log::Access;
 use machine_base::CoreFault;
 use monotone_fn::Costs;
-use ta_core::Ta;
 use test_support::{Lists, item_row, random_row, sorted_row};
 
 const ALIKE: Lists<'static> = &[
@@ -111,7 +110,7 @@ const CASES: &[Case] = &[
 /// Answers, accesses and figures.
 #[test]
 fn answers_by_hand(rt: HostRuntime) {
-    none_is_wrong(&rt, first_wrong::<Ta>(rt.alloc(), CASES));
+    none_is_wrong(&rt, first_wrong(rt.alloc(), CASES));
 }
 
 /// Queries, their lists, and why a row is refused that is one object too many: for the lists, and for the room that was stated.
@@ -132,5 +131,5 @@ const FAULTS: &[FaultCase] = &[
 
 #[test]
 fn refuses_by_name(rt: HostRuntime) {
-    none_is_wrong(&rt, first_wrong_fault::<Ta>(rt.alloc(), FAULTS));
+    none_is_wrong(&rt, first_wrong_fault(rt.alloc(), FAULTS));
 }

@@ -8,7 +8,7 @@ use test_support::{Access, Lists, item_row, random_row, sorted_row};
 /// the greatest depth.
 #[derive(Clone, Copy)]
 pub struct Row {
-    /// The query. Its word for the algorithm isn't read.
+    /// The query.
     pub text: &'static str,
     /// Its lists.
     pub lists: Lists<'static>,
@@ -43,7 +43,7 @@ const HOTELS: Lists<'static> = &[
 /// reached; hotels, of which two are asked for, each in the lists that don't give it.
 pub const ROWS: &[Row] = &[
     Row {
-        text: "top 1 by sum(A,B) using ta",
+        text: "top 1 by sum(A,B) using taz",
         lists: THREE,
         sorted: &[true, false],
         items: &[item_row!(2, 1500, 1500)],
@@ -58,7 +58,7 @@ pub const ROWS: &[Row] = &[
         depth: 3,
     },
     Row {
-        text: "top 1 by wsum(1*A,0*B) using ta",
+        text: "top 1 by wsum(1*A,0*B) using taz",
         lists: THREE,
         sorted: &[true, false],
         items: &[item_row!(1, 900, 900)],
@@ -66,7 +66,7 @@ pub const ROWS: &[Row] = &[
         depth: 1,
     },
     Row {
-        text: "top 2 by sum(A,B) using ta",
+        text: "top 2 by sum(A,B) using taz",
         lists: THREE,
         sorted: &[false, true],
         items: &[item_row!(2, 1500, 1500), item_row!(1, 1400, 1400)],
@@ -81,7 +81,7 @@ pub const ROWS: &[Row] = &[
         depth: 3,
     },
     Row {
-        text: "top 1 by sum(A,B) using ta",
+        text: "top 1 by sum(A,B) using taz",
         lists: THREE,
         sorted: &[true, true],
         items: &[item_row!(2, 1500, 1500)],
@@ -97,7 +97,7 @@ pub const ROWS: &[Row] = &[
         depth: 2,
     },
     Row {
-        text: "top 1 by sum(A,B) using ta",
+        text: "top 1 by sum(A,B) using taz",
         lists: CROSSED,
         sorted: &[true, true],
         items: &[item_row!(1, 9, 9)],
@@ -110,7 +110,7 @@ pub const ROWS: &[Row] = &[
         depth: 1,
     },
     Row {
-        text: "top 1 by min(A,B,C) using ta",
+        text: "top 1 by min(A,B,C) using taz",
         lists: HOTELS,
         sorted: &[true, false, true],
         items: &[item_row!(2, 700, 700)],
@@ -137,7 +137,7 @@ const STRANGE: Lists<'static> = &[&[(1, 9), (2, 8)], &[(1, 7), (3, 6)]];
 /// Of an object too many for the lists, and of one for which no room was stated.
 pub const FAULTS: &[Fault] = &[
     (
-        "top 2 by sum(A,B) using ta",
+        "top 2 by sum(A,B) using taz",
         STRANGE,
         &[true, true],
         CoreFault::Strangers {
@@ -146,7 +146,7 @@ pub const FAULTS: &[Fault] = &[
         },
     ),
     (
-        "top 1 by sum(A,B) using ta room 1",
+        "top 1 by sum(A,B) using taz room 1",
         THREE,
         &[true, false],
         CoreFault::RoomFull { room: 1 },

@@ -5,7 +5,6 @@
 //! threshold, in which such a list counts with the greatest grade, or all objects are seen. Only `make` and `answer` take memory.
 #![tactic(auto)]
 
-mod driven;
 mod following;
 mod scoring;
 mod sorted_lists;

@@ -1,13 +1,14 @@
 use Rattle.std.proofs.Common.{subst, sym}
 use Rattle.topk_theory.specs.declared.access.Access.TheVariants.{Random}
 use Rattle.machine_base.specs.Machine.{MayBeNextGrade}
+use Rattle.query_core.specs.Machines.{state_of}
 use Rattle.machine_base.proofs.MachineLaws.{one_more}
 use Rattle.test_machine_driver.proofs.Wide.{wide_grade}
 use Rattle.test_machine_driver.proofs.driver.feed_grade.Goals as goal
 
-pub take_grade-requires : goal.take_grade-requires
-take_grade-requires g c =
-    let log = (g.M.Driven.state c.args.machine.now).log in
+pub feed_grade-requires : goal.feed_grade-requires
+feed_grade-requires c =
+    let log = (state_of c.args.machine.now).log in
     let list = c.args.list in
     let object = c.args.object in
     let grade = c.args.grade in

@@ -1,13 +1,14 @@
 use Rattle.std.proofs.Common.{subst, sym}
 use Rattle.topk_theory.specs.declared.access.Access.TheVariants.{Sorted}
 use Rattle.machine_base.specs.Machine.{MayBeNextRow}
+use Rattle.query_core.specs.Machines.{state_of}
 use Rattle.machine_base.proofs.MachineLaws.{one_more}
 use Rattle.test_machine_driver.proofs.Wide.{wide_row}
 use Rattle.test_machine_driver.proofs.driver.feed_row.Goals as goal
 
-pub take_row-requires : goal.take_row-requires
-take_row-requires g c =
-    let log = (g.M.Driven.state c.args.machine.now).log in
+pub feed_row-requires : goal.feed_row-requires
+feed_row-requires c =
+    let log = (state_of c.args.machine.now).log in
     let list = c.args.list in
     let row = c.args.row in
     let wide = c.args.wide.now in

@@ -1,19 +1,23 @@
 use Rattle.std.proofs.Common.{refl}
 use Rattle.query_core.specs.declared.machine.Machine.TheVariants as machines
-use Rattle.query_core.proofs.Endings.{plain_ends, theta_ends, early_ends, restricted_ends}
+use Rattle.query_core.proofs.Endings.{plain_ends, threshold_ends, restricted_ends}
+use Rattle.query_core.proofs.Halting.{threshold_makes}
 use Rattle.query_core.proofs.machine.Machine.answer.Goals as goal
 
 pub returns-in-Ta-clause-items : goal.returns-in-Ta-clause-items
 returns-in-Ta-clause-items c =
-    (plain_ends c.args.self (machines.Ta c.in-Ta.machine) c.answer.result (λ V m A Y. refl) c.in-Ta.is c.requires c.answer.ensures.run c.answer.ensures.items c.answer.ensures.transcript).items
+    (threshold_ends c.args.self c.in-Ta.machine c.answer.result c.in-Ta.is c.requires c.answer.ensures.run c.answer.ensures.items c.answer.ensures.transcript).items
 
 pub returns-in-Ta-clause-near : goal.returns-in-Ta-clause-near
 returns-in-Ta-clause-near c =
-    (plain_ends c.args.self (machines.Ta c.in-Ta.machine) c.answer.result (λ V m A Y. refl) c.in-Ta.is c.requires c.answer.ensures.run c.answer.ensures.items c.answer.ensures.transcript).near
+    (threshold_ends c.args.self c.in-Ta.machine c.answer.result c.in-Ta.is c.requires c.answer.ensures.run c.answer.ensures.items c.answer.ensures.transcript).near
 
 pub returns-in-Ta-clause-bounds : goal.returns-in-Ta-clause-bounds
 returns-in-Ta-clause-bounds c =
-    (plain_ends c.args.self (machines.Ta c.in-Ta.machine) c.answer.result (λ V m A Y. refl) c.in-Ta.is c.requires c.answer.ensures.run c.answer.ensures.items c.answer.ensures.transcript).bounds
+    (threshold_ends c.args.self c.in-Ta.machine c.answer.result c.in-Ta.is c.requires c.answer.ensures.run c.answer.ensures.items c.answer.ensures.transcript).bounds
+
+pub returns-in-Ta-clause-run : goal.returns-in-Ta-clause-run
+returns-in-Ta-clause-run c = threshold_makes c.args.self c.in-Ta.machine c.in-Ta.is c.answer.ensures.run
 
 pub returns-in-Nra-clause-items : goal.returns-in-Nra-clause-items
 returns-in-Nra-clause-items c =
@@ -50,30 +54,6 @@ returns-in-Fa-clause-near c =
 pub returns-in-Fa-clause-bounds : goal.returns-in-Fa-clause-bounds
 returns-in-Fa-clause-bounds c =
     (plain_ends c.args.self (machines.Fa c.in-Fa.machine) c.answer-in-Fa.result (λ V m A Y. refl) c.in-Fa.is c.requires c.answer-in-Fa.ensures.run c.answer-in-Fa.ensures.items c.answer-in-Fa.ensures.transcript).bounds
-
-pub returns-in-Theta-clause-items : goal.returns-in-Theta-clause-items
-returns-in-Theta-clause-items c =
-    (theta_ends c.args.self c.in-Theta.machine c.answer-in-Theta.result c.in-Theta.is c.requires c.answer-in-Theta.ensures.run c.answer-in-Theta.ensures.items c.answer-in-Theta.ensures.transcript).items
-
-pub returns-in-Theta-clause-near : goal.returns-in-Theta-clause-near
-returns-in-Theta-clause-near c =
-    (theta_ends c.args.self c.in-Theta.machine c.answer-in-Theta.result c.in-Theta.is c.requires c.answer-in-Theta.ensures.run c.answer-in-Theta.ensures.items c.answer-in-Theta.ensures.transcript).near
-
-pub returns-in-Theta-clause-bounds : goal.returns-in-Theta-clause-bounds
-returns-in-Theta-clause-bounds c =
-    (theta_ends c.args.self c.in-Theta.machine c.answer-in-Theta.result c.in-Theta.is c.requires c.answer-in-Theta.ensures.run c.answer-in-Theta.ensures.items c.answer-in-Theta.ensures.transcript).bounds
-
-pub returns-in-Early-clause-items : goal.returns-in-Early-clause-items
-returns-in-Early-clause-items c =
-    (early_ends c.args.self c.in-Early.machine c.answer-in-Early.result c.in-Early.is c.requires c.answer-in-Early.ensures.run c.answer-in-Early.ensures.items c.answer-in-Early.ensures.transcript).items
-
-pub returns-in-Early-clause-near : goal.returns-in-Early-clause-near
-returns-in-Early-clause-near c =
-    (early_ends c.args.self c.in-Early.machine c.answer-in-Early.result c.in-Early.is c.requires c.answer-in-Early.ensures.run c.answer-in-Early.ensures.items c.answer-in-Early.ensures.transcript).near
-
-pub returns-in-Early-clause-bounds : goal.returns-in-Early-clause-bounds
-returns-in-Early-clause-bounds c =
-    (early_ends c.args.self c.in-Early.machine c.answer-in-Early.result c.in-Early.is c.requires c.answer-in-Early.ensures.run c.answer-in-Early.ensures.items c.answer-in-Early.ensures.transcript).bounds
 
 pub returns-in-Taz-clause-items : goal.returns-in-Taz-clause-items
 returns-in-Taz-clause-items c =
