@@ -4,3 +4,4 @@ pub mod Placing
 pub mod Putting
 pub mod Within
 pub mod SlotChanges
+pub mod Holes

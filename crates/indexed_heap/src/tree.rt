@@ -1,7 +1,7 @@
 //! The tree under a heap: a list of keys with ranks, of which none has a greater rank than the one above it. Under the node at
 //! a place stand those at twice the place and one, and at the next. Beside the list, the place of each key's node.
 
-ghost use Rattle.std.specs.Prelude.{◌≡◌, ◌+◌, ◌*◌, ◌<◌, ◌≤◌, length, MatchOption};
+ghost use Rattle.std.specs.Prelude.{◌≡◌, ◌+◌, ◌*◌, ◌<◌, ◌≤◌, length, slice_set, MatchOption, Some};
 ghost use Rattle.std.specs.Ordering.{is_lt};
 ghost use Rattle.indexed_heap.specs.Tree.{above, node_at, node_cmp, IsUpTo, IsHeap, IsLoose, IsRising, IsSinking, IsUnderNoGreater, CoversUnder, IsGreatestUnder, IsGreaterUnder, IsExchanged, IsPlaced, IsMoved};
 
@@ -44,16 +44,24 @@ fn is_less<T: Ord + Copy>(nodes: &[Ranked<T>], first: usize, second: usize) -> b
     nodes[first].rank < nodes[second].rank
 }
 
-/// The place above, where the node there is less.
-fn less_above<T: Ord + Copy>(nodes: &[Ranked<T>], place: usize) -> Option<usize>
+/// Whether a node is less than the one at a place.
+fn is_below<T: Ord + Copy>(node: Ranked<T>, nodes: &[Ranked<T>], place: usize) -> bool
     requires { place < length nodes.now }
-    ensures { MatchOption result (1 ≤ place → IsUpTo T.cmp nodes.now place (above place)) (IsUnderNoGreater T.cmp nodes.now place) }
+    ensures { result ≡ is_lt (node_cmp T.cmp (Some node) (node_at nodes.now place)) }
 {
-    if place == 0 {
+    node.rank < nodes[place].rank
+}
+
+/// The place above a hole, where the node there is less than the one for the hole.
+fn less_above<T: Ord + Copy>(nodes: &[Ranked<T>], hole: usize, node: Ranked<T>) -> Option<usize>
+    requires { hole < length nodes.now }
+    ensures { MatchOption result (1 ≤ hole → IsUpTo T.cmp (slice_set nodes.now hole node) hole (above hole)) (IsUnderNoGreater T.cmp (slice_set nodes.now hole node) hole) }
+{
+    if hole == 0 {
         return None;
     }
-    let above = (place - 1) / 2;
-    if is_less(nodes, above, place) {
+    let above = (hole - 1) / 2;
+    if nodes[above].rank < node.rank {
         Some(above)
     } else {
         None
@@ -78,46 +86,69 @@ fn greatest_under<T: Ord + Copy>(nodes: &[Ranked<T>], place: usize) -> Option<us
     }
 }
 
-/// The place of the greatest node under one, where it is greater than the one there.
-fn greater_under<T: Ord + Copy>(nodes: &[Ranked<T>], place: usize) -> Option<usize>
-    requires within { place < length nodes.now }
+/// The place of the greatest node under a hole, where it is greater than the one for the hole.
+fn greater_under<T: Ord + Copy>(nodes: &[Ranked<T>], hole: usize, node: Ranked<T>) -> Option<usize>
+    requires within { hole < length nodes.now }
     requires few { length nodes.now ≤ MAX_OBJECTS }
-    ensures { MatchOption result (CoversUnder T.cmp nodes.now place place) (IsGreaterUnder T.cmp nodes.now place) }
+    ensures { MatchOption result (CoversUnder T.cmp (slice_set nodes.now hole node) hole hole) (IsGreaterUnder T.cmp (slice_set nodes.now hole node) hole) }
 {
-    let under = greatest_under(nodes, place)?;
-    if is_less(nodes, place, under) {
+    let under = greatest_under(nodes, hole)?;
+    if is_below(node, nodes, under) {
         Some(under)
     } else {
         None
     }
 }
 
-/// Lets the node at a place rise above each that is less.
+/// Writes a node at a place, and the place of its key.
+fn stand<T: Copy>(
+    nodes: &mut [Ranked<T>],
+    places: &mut [Option<u32>],
+    place: usize,
+    node: Ranked<T>,
+)
+    requires place { place < length nodes.old }
+    requires few { length nodes.old ≤ MAX_OBJECTS }
+    requires key { node.key < length places.old }
+    ensures nodes { nodes.new ≡ slice_set nodes.old place node }
+    ensures places { places.new ≡ slice_set places.old node.key (Some place) }
+{
+    nodes[place] = node;
+    places[node.key as usize] = Some(place as u32);
+}
+
+/// Lets the node at a place rise above each that is less: these come down one after another, and it stands where the last one stood.
 fn rise<T: Ord + Copy>(nodes: &mut [Ranked<T>], places: &mut [Option<u32>], from: usize)
     requires placed { IsPlaced nodes.old places.old }
     requires rising { IsRising T.cmp from nodes.old }
     ensures heap { IsHeap T.cmp nodes.new }
     ensures moved { IsMoved nodes.old nodes.new places.old places.new }
 {
-    let mut place = from;
-    while let Some(above) = less_above(nodes, place) {
-        exchange(nodes, places, above, place);
-        place = above;
+    let node = nodes[from];
+    let mut hole = from;
+    while let Some(above) = less_above(nodes, hole, node) {
+        let other = nodes[above];
+        stand(nodes, places, hole, other);
+        hole = above;
     }
+    stand(nodes, places, hole, node);
 }
 
-/// Lets the node at a place sink below each that is greater.
+/// Lets the node at a place sink below each that is greater: these come up one after another, and it stands where the last one stood.
 fn sink<T: Ord + Copy>(nodes: &mut [Ranked<T>], places: &mut [Option<u32>], from: usize)
     requires placed { IsPlaced nodes.old places.old }
     requires sinking { IsSinking T.cmp from nodes.old }
     ensures heap { IsHeap T.cmp nodes.new }
     ensures moved { IsMoved nodes.old nodes.new places.old places.new }
 {
-    let mut place = from;
-    while let Some(under) = greater_under(nodes, place) {
-        exchange(nodes, places, place, under);
-        place = under;
+    let node = nodes[from];
+    let mut hole = from;
+    while let Some(under) = greater_under(nodes, hole, node) {
+        let other = nodes[under];
+        stand(nodes, places, hole, other);
+        hole = under;
     }
+    stand(nodes, places, hole, node);
 }
 
 /// Lets the node at a place, which may have any rank, go where it belongs.
@@ -131,7 +162,7 @@ pub(crate) fn settle<T: Ord + Copy>(
     ensures heap { IsHeap T.cmp nodes.new }
     ensures moved { IsMoved nodes.old nodes.new places.old places.new }
 {
-    match less_above(nodes, place) {
+    match less_above(nodes, place, nodes[place]) {
         Some(_) => rise(nodes, places, place),
         None => sink(nodes, places, place),
     }

@@ -1,4 +1,7 @@
+use Rattle.std.proofs.Common.{subst}
+use Rattle.indexed_heap.specs.Tree.{IsUpTo}
 use Rattle.indexed_heap.proofs.HeapLaws.{loose_rises}
+use Rattle.std.proofs.lemmas.List.{set-get_or}
 use Rattle.indexed_heap.proofs.tree.settle.Goals as goal
 
 pub less_above-requires : goal.less_above-requires
@@ -9,7 +12,9 @@ rise-requires-clause-placed g c = c.requires.placed
 
 pub rise-requires-clause-rising : goal.rise-requires-clause-rising
 rise-requires-clause-rising g c =
-    loose_rises g.T.Ord.cmp g.met.T.Ord.total c.args.place c.in-Some.field-0 c.args.nodes.now c.requires.loose c.in-Some.ensures.positive c.in-Some.ensures.is c.in-Some.ensures.order
+    let same = set-get_or c.args.nodes.now c.args.place c.index-nodes-place.result in
+    loose_rises g.T.Ord.cmp g.met.T.Ord.total c.args.place c.in-Some.field-0 c.args.nodes.now c.requires.loose c.in-Some.ensures.positive c.in-Some.ensures.is
+    (subst (λ ns. IsUpTo g.T.Ord.cmp ns c.in-Some.field-0 c.args.place) same c.in-Some.ensures.order)
 
 pub returns-in-Some-clause-heap : goal.returns-in-Some-clause-heap
 returns-in-Some-clause-heap g c = c.rise.ensures.heap

@@ -1,47 +1,59 @@
-use Rattle.std.proofs.Common.{arith}
-use Rattle.indexed_heap.proofs.HeapLaws.{sinking_on, sunk}
-use Rattle.indexed_heap.proofs.Placing.{moved_not, moved_on}
+use Rattle.std.proofs.Common.{length, refl, sym, subst, arith}
+use Rattle.std.proofs.lemmas.List.{length-set}
+use Rattle.std.proofs.lemmas.Option.{slice_get_read}
+use Rattle.indexed_heap.specs.Tree.{IsSinking}
+use Rattle.indexed_heap.proofs.HeapLaws.{sinking_on}
+use Rattle.indexed_heap.proofs.Placing.{moved_on}
+use Rattle.indexed_heap.proofs.Holes.{IsHole, filled, told, filled_again, hole_begins, own_within, other_within, comes}
 use Rattle.indexed_heap.proofs.tree.sink.Goals as goal
+use Rattle.indexed_heap.proofs.tree.sink.Goals.{After-index-nodes-under}
 
 pub loop-under-init : goal.loop-under-init
-loop-under-init g c = record { sinking = c.requires.sinking; moved = moved_not c.args.nodes.now c.args.places.now c.requires.placed }
+loop-under-init g c =
+    let node = c.index-nodes-from.result in
+    record {
+      sinking = subst (IsSinking g.T.Ord.cmp c.args.from) (sym (filled_again c.args.nodes.now c.args.from node c.index-nodes-from.is)) c.requires.sinking;
+      moved = hole_begins c.args.nodes.now c.args.places.now c.args.from node c.requires.placed c.requires.sinking.within c.index-nodes-from.is;
+    }
 
-pub greater_under-requires-clause-within : goal.greater_under-requires-clause-within
-greater_under-requires-clause-within g c = c.loop-under.invariant.sinking.within
-
-pub greater_under-requires-clause-few : goal.greater_under-requires-clause-few
-greater_under-requires-clause-few g c = c.loop-under.invariant.moved.placed.few
-
-pub exchange-requires-clause-placed : goal.exchange-requires-clause-placed
-exchange-requires-clause-placed g c = c.loop-under.invariant.moved.placed
-
-pub exchange-requires-clause-one : goal.exchange-requires-clause-one
-exchange-requires-clause-one g c = c.loop-under.invariant.sinking.within
-
-pub exchange-requires-clause-other : goal.exchange-requires-clause-other
-exchange-requires-clause-other g c = c.in-Some.ensures.greatest.within
-
-pub loop-under-smaller : goal.loop-under-smaller
-loop-under-smaller g c =
-    let within = c.in-Some.ensures.greatest.within in
+-- the node under stands apart from the hole
+hole : (g : _) (c : After-index-nodes-under g)
+    → IsHole c.loop-under.nodes c.loop-under.places c.loop-under.hole c.in-Some.under c.index-nodes-from.result c.index-nodes-under.result
+hole g c =
+    let l = c.loop-under in
+    let size = length-set l.nodes l.hole c.index-nodes-from.result in
+    let within = l.invariant.sinking.within in
+    let deep = c.in-Some.ensures.greatest.within in
     let positive = c.in-Some.ensures.greatest.positive in
     let is = c.in-Some.ensures.greatest.is in
-    let size = c.exchange.ensures.exchanged.size in
-    omega arith
+    record {
+      placed = l.invariant.moved.placed;
+      here = omega arith;
+      there = omega arith;
+      apart = omega arith;
+      is = slice_get_read l.nodes (length l.nodes) c.in-Some.under c.index-nodes-under.result refl (omega arith) c.index-nodes-under.is;
+    }
+
+pub stand-requires-clause-key : goal.stand-requires-clause-key
+stand-requires-clause-key g c =
+    let l = c.loop-under in
+    other_within l.nodes l.places l.hole c.in-Some.under c.index-nodes-from.result c.index-nodes-under.result (hole g (goal.at.stand-requires-clause-key g c).After-index-nodes-under)
 
 pub loop-under-preserved : goal.loop-under-preserved
 loop-under-preserved g c =
     let l = c.loop-under in
+    let node = c.index-nodes-from.result in
+    let come =
+    comes l.nodes l.places l.hole c.in-Some.under node c.index-nodes-under.result c.stand.new.nodes c.stand.new.places (hole g (goal.at.loop-under-preserved g c).After-index-nodes-under) c.stand.ensures.nodes c.stand.ensures.places in
     record {
       sinking =
-          sinking_on g.T.Ord.cmp g.met.T.Ord.total l.place c.in-Some.under l.nodes c.exchange.new.nodes l.invariant.sinking c.in-Some.ensures.greatest
-          c.in-Some.ensures.order c.exchange.ensures.exchanged;
-      moved = moved_on c.args.nodes.now l.nodes c.exchange.new.nodes c.args.places.now l.places c.exchange.new.places l.invariant.moved c.exchange.ensures.moved;
+          sinking_on g.T.Ord.cmp g.met.T.Ord.total l.hole c.in-Some.under (filled l.nodes l.hole node) (filled c.stand.new.nodes c.in-Some.under node) l.invariant.sinking
+          c.in-Some.ensures.greatest c.in-Some.ensures.order come.exchanged;
+      moved =
+          moved_on c.args.nodes.now (filled l.nodes l.hole node) (filled c.stand.new.nodes c.in-Some.under node) c.args.places.now (told l.places l.hole node)
+          (told c.stand.new.places c.in-Some.under node) l.invariant.moved come.moved;
     }
 
-pub returns-clause-heap : goal.returns-clause-heap
-returns-clause-heap g c =
-    sunk g.T.Ord.cmp g.met.T.Ord.total c.loop-under.place c.loop-under.nodes c.loop-under.invariant.sinking c.in_default.ensures
-
-pub returns-clause-moved : goal.returns-clause-moved
-returns-clause-moved g c = c.loop-under.invariant.moved
+pub stand-requires-2-clause-key : goal.stand-requires-2-clause-key
+stand-requires-2-clause-key g c =
+    let l = c.loop-under in own_within l.nodes l.places l.hole c.index-nodes-from.result l.invariant.moved.placed l.invariant.sinking.within
