@@ -4,7 +4,7 @@ pub mod Opens
 pub mod Unread
 pub mod Once
 pub mod Taken
-pub mod Settled
+pub mod Settling
 pub mod Back
 -- Lemmas on what query lines want and come to.
 pub mod ReadOn

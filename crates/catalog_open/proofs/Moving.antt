@@ -11,9 +11,9 @@ use Rattle.source_api.specs.declared.source.Trouble.{Trouble}
 use Rattle.source_api.specs.declared.source.FailKind.TheVariants.{Failed, Garbled, Memory}
 use Rattle.source_api.specs.declared.source.Trouble.TheVariants.{Fail, Moved}
 use Rattle.source_api.specs.Counting.{TroubleHasCause, IsNoMove, added, no_counts, raised}
-use Rattle.source_api.specs.Places.{CountsTakes, SameElsewhere, counts_taken, put_back_at, with_source}
+use Rattle.source_api.specs.Places.{CountsTakes, SameAtEach, SameElsewhere, counts_taken, put_back_at, with_source}
 use Rattle.catalog_text.specs.Catalog.{Listed as Entry}
-use Rattle.catalog_open.specs.Openings.{Counted, Used, one_at, used_at, added_all, counted_times, PutsOneBack, MovesBut, none_held, Moves, MovesAt, TakesOneAtMost, PutsBack, KeepsOthers, TroubleAt}
+use Rattle.catalog_open.specs.Openings.{Counted, Used, one_at, used_at, added_all, counted_times, MovesBut, none_held, Moves, MovesAt, PutsBack, KeepsOthers, TroubleAt}
 use Rattle.catalog_open.specs.Entries.{entry_at}
 
 added_append : (c : Counts) (xs ys : List Counts) → added_all c (xs ++ ys) ≡ added_all (added_all c xs) ys
@@ -74,20 +74,17 @@ moves_on f g h u v before mid now first second all = record {
       ∙ ap (added_all (before place).sources) (sym (used_append place u v));
 }
 
-pub moves_then : (held : List ℕ → ℕ) (u v : List Used) (before mid now : Counted) → MovesBut held u before mid → Moves v mid now → MovesBut held (u ++ v) before now
-moves_then held u v before mid now first second = moves_on held none_held held u v before mid now first second (λ place. omega arith)
-
--- what was held was put back
-pub moves_back : (held : List ℕ → ℕ) (u back : List Used) (before mid now : Counted) → MovesBut held u before mid → PutsBack back mid now
-    → ((place : List ℕ) → length (used_at place back) ≡ held place) → Moves (u ++ back) before now
-moves_back held u back before mid now first second all = record {
+-- some of what was held was put back
+pub puts_on : (held left : List ℕ → ℕ) (u back : List Used) (before mid now : Counted) → MovesBut held u before mid → PutsBack back mid now
+    → ((place : List ℕ) → length (used_at place back) + left place ≡ held place) → MovesBut left (u ++ back) before now
+puts_on held left u back before mid now first second all = record {
   texts = λ place. second.texts place ∙ first.texts place;
   takes = λ place. let e = second.takes place in omega (arith, first.takes place, e);
   taken = λ place.
       let both = used_both place u back in
       let here = all place in
       second.taken place ∙ first.taken place
-      ∙ ap (λ n. counted_times n (before place).taken) (let e : length (used_at place u) + held place ≡ length (used_at place (u ++ back)) + 0 = omega (arith, both, here) in e);
+      ∙ ap (λ n. counted_times n (before place).taken) (let e : length (used_at place u) + held place ≡ length (used_at place (u ++ back)) + left place = omega (arith, both, here) in e);
   returned = λ place.
       let both = used_both place u back in
       times_then (length (used_at place u)) (length (used_at place back)) (length (used_at place (u ++ back))) (before place).returned (mid place).returned (now place).returned
@@ -99,9 +96,24 @@ moves_back held u back before mid now first second all = record {
       ∙ ap (added_all (before place).sources) (sym (used_append place u back));
 }
 
+-- all was
+pub moves_back : (held : List ℕ → ℕ) (u back : List Used) (before mid now : Counted) → MovesBut held u before mid → PutsBack back mid now
+    → ((place : List ℕ) → length (used_at place back) ≡ held place) → Moves (u ++ back) before now
+moves_back held u back before mid now first second all =
+    puts_on held none_held u back before mid now first second (λ place. let e = all place in omega (arith, e))
+
 -- putting back, one after another
 pub puts_none : (before : Counted) → PutsBack [] before before
 puts_none before = record { texts = λ place. refl; takes = λ place. refl; taken = λ place. refl; returned = λ place. refl; sources = λ place. refl }
+
+pub puts_still : (before now : Counted) → SameAtEach before now → PutsBack [] before now
+puts_still before now same = record {
+  texts = λ place. ap (λ (c : PlaceCounts). c.text_faults) (same place);
+  takes = λ place. ap (λ (c : PlaceCounts). c.take_faults) (same place);
+  taken = λ place. ap (λ (c : PlaceCounts). c.taken) (same place);
+  returned = λ place. ap (λ (c : PlaceCounts). c.returned) (same place);
+  sources = λ place. ap (λ (c : PlaceCounts). c.sources) (same place);
+}
 
 pub puts_then : (u v : List Used) (before mid now : Counted) → PutsBack u before mid → PutsBack v mid now → PutsBack (u ++ v) before now
 puts_then u v before mid now first second = record {
@@ -161,25 +173,30 @@ here_still held used before now other still none free =
       sources = ap (λ (c : PlaceCounts). c.sources) still ∙ ap (added_all (before other).sources) (sym none);
     }
 
-here_one : (place : List ℕ) (before now : Counted) → SameElsewhere place before now → (at : TakesOneAtMost (before place) (now place)) → (other : List ℕ)
-    → Here none_held (at_place place at.moves.counts) before now other
-here_one place before now elsewhere at other =
-    let counts = at.moves.counts in
-    elim (bytes_eq place other) as (λ t. bytes_eq place other ≡ t → Here none_held (at_place place counts) before now other) [
+-- nothing was counted anywhere
+pub moves_still : (before now : Counted) → SameAtEach before now → Moves [] before now
+moves_still before now same = here_all none_held [] before now (λ other. here_still none_held [] before now other (same other) refl refl)
+
+-- a call that takes a source failed
+here_failed : (place : List ℕ) (before now : Counted) → SameElsewhere place before now → CountsTakes (before place) (now place) → (now place).taken ≡ (before place).taken
+    → (other : List ℕ) → Here none_held [] before now other
+here_failed place before now elsewhere takes same other =
+    elim (bytes_eq place other) as (λ t. bytes_eq place other ≡ t → Here none_held [] before now other) [
       | true ↦ λ e.
-          let used = used_here place place counts ((bytes_eq-Decides place place).1 refl) in
-          let many : length (used_at place (at_place place counts)) ≡ length counts = ap (length {A = Counts}) used in
-          subst (Here none_held (at_place place counts) before now) ((bytes_eq-Decides place other).0 e) (record {
-            texts = at.moves.texts;
-            takes = at.moves.takes;
-            taken = at.taken ∙ ap (λ n. counted_times n (before place).taken) (let e : length counts ≡ length (used_at place (at_place place counts)) + 0 = omega (arith, many) in e);
-            returned = at.returned ∙ ap (λ n. counted_times n (before place).returned) (sym many);
-            sources = at.moves.sources ∙ ap (added_all (before place).sources) (sym used);
+          subst (Here none_held [] before now) ((bytes_eq-Decides place other).0 e) (record {
+            texts = ap (λ (c : PlaceCounts). c.text_faults) takes.others;
+            takes = takes.later;
+            taken = same;
+            returned = ap (λ (c : PlaceCounts). c.returned) takes.others;
+            sources = ap (λ (c : PlaceCounts). c.sources) takes.others;
           })
       | false ↦ λ e.
-          let apart : other ≢ place = λ same. false≢true (sym e ∙ (bytes_eq-Decides place other).1 (sym same)) in
-          here_still none_held (at_place place counts) before now other (elsewhere other apart) (used_elsewhere place other counts e) refl
+          here_still none_held [] before now other (elsewhere other (λ same. false≢true (sym e ∙ (bytes_eq-Decides place other).1 (sym same)))) refl refl
     ] refl
+
+pub moves_failed : (place : List ℕ) (before now : Counted) → SameElsewhere place before now → CountsTakes (before place) (now place) → (now place).taken ≡ (before place).taken
+    → Moves [] before now
+moves_failed place before now elsewhere takes same = here_all none_held [] before now (here_failed place before now elsewhere takes same)
 
 -- of one place one source more is held
 here_taken : (place : List ℕ) (before now : Counted) → SameElsewhere place before now → now place ≡ counts_taken (before place) → (other : List ℕ)
@@ -249,11 +266,6 @@ puts_here place one before now elsewhere is = record {
           }
     ] refl
 
--- what changes at one place alone moves so
-pub moves_here : (place : List ℕ) (before now : Counted) → SameElsewhere place before now → (at : TakesOneAtMost (before place) (now place))
-    → Moves (at_place place at.moves.counts) before now
-moves_here place before now elsewhere at = here_all none_held (at_place place at.moves.counts) before now (here_one place before now elsewhere at)
-
 pub moves_at : {held : List ℕ → ℕ} (u : List Used) (before now : Counted) (place : List ℕ) → MovesBut held u before now → MovesAt (before place) (now place)
 moves_at u before now place moves = record { texts = moves.texts place; takes = moves.takes place; counts = used_at place u; sources = moves.sources place }
 
@@ -317,11 +329,7 @@ pub keeps_here : (catalog : List Entry) (These : ℕ → Type 0) (entry : ℕ) (
     → (entry_at catalog entry).place ≡ place → SameElsewhere place before now → KeepsOthers catalog These before now
 keeps_here catalog These entry place before now is at elsewhere = λ other apart. elsewhere other (λ same. apart entry is (at ∙ sym same))
 
--- a source was put back at a place where it counts
-pub put_known : (before now : PlaceCounts) (knows : Bool) (counts : Counts) → now ≡ put_back_at knows counts before → knows ≡ true → PutsOneBack before now
-put_known before now knows counts is known = (counts, is ∙ ap (λ k. put_back_at k counts before) known)
-
--- and had failed at its first call, or answered it by garbled data
+-- a source was put back at a place where it counts, and had failed at its first call, or answered it by garbled data
 pub put_troubled : (before now : PlaceCounts) (knows : Bool) (first counts : Counts) (trouble : Trouble) → now ≡ put_back_at knows counts before → knows ≡ true
     → first ≡ no_counts → TroubleHasCause first counts trouble → (trouble ≡ Fail Memory → ⊥) → IsNoMove trouble → TroubleAt before now
 put_troubled before now knows first counts (Fail Failed) is known fresh cause other still =
@@ -334,32 +342,3 @@ put_troubled before now knows first counts (Fail Garbled) is known fresh cause o
     inr (inr (omega (arith, here, none, cause)))
 put_troubled before now knows first counts (Fail Memory) is known fresh cause other still = absurd (other refl)
 put_troubled before now knows first counts (Moved had stated) is known fresh cause other still = absurd still
-
--- no source was taken, or one was taken and put back
-pub took_none : (before now : PlaceCounts) → CountsTakes before now → now.taken ≡ before.taken → TakesOneAtMost before now
-took_none before now takes same = record {
-  moves = record {
-    texts = ap (λ (c : PlaceCounts). c.text_faults) takes.others;
-    takes = takes.later;
-    counts = [];
-    sources = ap (λ (c : PlaceCounts). c.sources) takes.others;
-  };
-  taken = same;
-  returned = ap (λ (c : PlaceCounts). c.returned) takes.others;
-  once = omega arith;
-}
-
-pub took_back : (before mid now : PlaceCounts) → mid ≡ counts_taken before → PutsOneBack mid now → TakesOneAtMost before now
-took_back before mid now took put =
-    let first : (now.take_faults) ≡ before.take_faults = ap (λ (c : PlaceCounts). c.take_faults) put.1 ∙ ap (λ (c : PlaceCounts). c.take_faults) took in
-    record {
-      moves = record {
-        texts = ap (λ (c : PlaceCounts). c.text_faults) put.1 ∙ ap (λ (c : PlaceCounts). c.text_faults) took;
-        takes = omega (arith, first);
-        counts = put.0 ∷ [];
-        sources = ap (λ (c : PlaceCounts). c.sources) put.1 ∙ ap (λ (c : PlaceCounts). added c.sources put.0) took;
-      };
-      taken = ap (λ (c : PlaceCounts). c.taken) put.1 ∙ ap (λ (c : PlaceCounts). c.taken) took;
-      returned = ap (λ (c : PlaceCounts). c.returned) put.1 ∙ ap (λ (c : PlaceCounts). counted c.returned) took;
-      once = omega arith;
-    }

@@ -1,6 +1,7 @@
 -- Each source is asked for once.
 use Rattle.std.proofs.Common.{◌≡◌, ◌≢◌, ℕ, zero, suc, ◌+◌, ◌≤◌, ◌<◌, Bool, true, false, List, [], ◌∷◌, ◌++◌, length, length-take-le, take, slice_index_or, Result, Ok, Err, OnOk, refl, sym, ap, ◌∙◌, subst, arith}
 use Rattle.std.specs.Prelude.{if◌then◌else◌}
+use Rattle.std.specs.Result.{is_err}
 use Rattle.std.specs.Str.{bytes_eq}
 use Rattle.std.proofs.lemmas.Bool.{false≢true}
 use Rattle.std.proofs.lemmas.List.{take_all, take_more}
@@ -172,3 +173,22 @@ few_back catalog marks back before mid now so_far puts = λ place.
         quiet = λ none. same ∙ asks.quiet none;
       };
     }
+
+pub once_back : (catalog : List Entry) (marks : List Bool) (back : List Used) (before mid now : Counted) → AsksEachOnce catalog marks before mid → PutsBack back mid now
+    → AsksEachOnce catalog marks before now
+once_back catalog marks back before mid now so_far puts = λ place.
+    let asks = so_far place in
+    let same : (now place).take_faults ≡ (mid place).take_faults = puts.takes place in
+    record {
+      given = asks.given;
+      failed = asks.failed;
+      all = asks.all;
+      taken = puts.taken place ∙ asks.taken;
+      faults = subst (λ n. counted_times asks.failed (before place).take_faults ≤ n) (sym same) asks.faults;
+      quiet = λ none. same ∙ asks.quiet none;
+    }
+
+-- what holds unless memory was refused
+pub unless_short : {A E : Type 0} (r : Result A E) (P : Type 0) → OnOk r P → is_err r ≡ false → P
+unless_short (Ok x) P h e = h
+unless_short (Err why) P h e = absurd cc

@@ -7,14 +7,37 @@ use Rattle.std.proofs.lemmas.Option.{get_or_from_slice_get, same_Some}
 use Rattle.std.specs.Prelude.{if◌then◌else◌}
 use Rattle.std.specs.Str.{bytes_eq}
 use Rattle.ranked_list.specs.declared.row.Row.{Row}
-use Rattle.source_api.specs.Places.{SameElsewhere, counts_taken}
 use Rattle.catalog_text.specs.Catalog.{Listed as Entry}
 use Rattle.catalog_open.specs.declared.opened.Opening.{Opening}
 use Rattle.catalog_open.specs.declared.opened.Opening.TheVariants.{Closed, Open}
 use Rattle.catalog_open.specs.Entries.{no_entry, entry_at, opening_at, entry_told}
-use Rattle.catalog_open.specs.Openings.{Counted, Used, Moves, MovesAt, TakesOneAtMost, KeepsOthers, TroubleAt, one_at, standing, Sources, run_count, IsToldAs, IsAtVersion, IsSource, IsOpening, IsNumbered, AreOpened, IsKnownAt}
-use Rattle.catalog_open.proofs.Moving.{at_place, moves_nothing, moves_on, moves_then, moves_here, moves_at, moves_taken, trouble_on, trouble_from, keeps_then, keeps_here}
+use Rattle.catalog_open.specs.Openings.{Counted, MovesAt, TroubleAt, one_at, standing, no_sources, Sources, run_count, IsToldAs, IsAtVersion, IsSource, IsOpening, IsNumbered, AreOpened, IsKnownAt}
+use Rattle.catalog_open.proofs.Moving.{moves_nothing, trouble_on}
 use Rattle.limits.specs.declared.TheConstants.{MAX_OBJECTS}
+
+abbrev sources_by : List (Option (List Row)) → List ℕ → List ℕ → List ℕ → Sources
+sources_by told held places counts = record { told = told; versions = held; places = places; counts = counts }
+
+-- what became of the sources of the first entries, whatever the shelf has counted
+pub record OpensSoFar (lists : List ℕ → Option (List Row)) (versions : List ℕ → Option ℕ) (catalog : List Entry) (Wanted : ℕ → Type 0)
+    (before now : Counted) (openings : List Opening) (s : Sources) : Type 0 where
+  pub each : (place : ℕ) → place < length openings → IsOpening lists versions catalog s Wanted before now place (opening_at openings place)
+  pub numbered : (source : ℕ) → source < length s.places → IsNumbered catalog openings (slice_index_or s.places source 0) source
+  pub many_told : length s.told ≡ length s.places
+  pub many_versions : length s.versions ≡ length s.places
+  pub many_counts : length s.counts ≡ length s.places
+  pub small : All (λ count. count ≤ MAX_OBJECTS) s.counts
+
+pub so_far_none : (lists : List ℕ → Option (List Row)) (versions : List ℕ → Option ℕ) (catalog : List Entry) (Wanted : ℕ → Type 0) (before now : Counted)
+    → OpensSoFar lists versions catalog Wanted before now [] no_sources
+so_far_none lists versions catalog Wanted before now = record {
+  each = λ place h. absurd (omega arith);
+  numbered = λ source h. absurd (omega arith);
+  many_told = refl;
+  many_versions = refl;
+  many_counts = refl;
+  small = All-from_recursion (λ count. count ≤ MAX_OBJECTS) [] tt;
+}
 
 -- nothing is open yet
 pub opened_none : (lists : List ℕ → Option (List Row)) (versions : List ℕ → Option ℕ) (catalog : List Entry) (Wanted : ℕ → Type 0) (before : Counted)
@@ -38,19 +61,16 @@ opening_on lists versions catalog s Wanted before mid now place Closed moves is 
 opening_on lists versions catalog s Wanted before mid now place (Open size source version) moves is = is
 
 -- the shelf went on
-pub opened_moved : (lists : List ℕ → Option (List Row)) (versions : List ℕ → Option ℕ) (catalog : List Entry) (Wanted : ℕ
-    → Type 0) (before mid now : Counted) (openings : List Opening) (s : Sources) (u : List Used)
-    → AreOpened lists versions catalog Wanted before mid openings s → Moves u mid now → KeepsOthers catalog Wanted mid now → AreOpened lists versions catalog Wanted before now openings s
-opened_moved lists versions catalog Wanted before mid now openings s u are moves others = record {
-  each = λ place within. opening_on lists versions catalog s Wanted before mid now place (opening_at openings place) (moves_at u mid now (entry_at catalog place).place moves) (are.each place within);
+pub so_far_on : (lists : List ℕ → Option (List Row)) (versions : List ℕ → Option ℕ) (catalog : List Entry) (Wanted : ℕ → Type 0) (before mid now : Counted)
+    (openings : List Opening) (s : Sources) → ((place : List ℕ) → MovesAt (mid place) (now place))
+    → OpensSoFar lists versions catalog Wanted before mid openings s → OpensSoFar lists versions catalog Wanted before now openings s
+so_far_on lists versions catalog Wanted before mid now openings s moves are = record {
+  each = λ place within. opening_on lists versions catalog s Wanted before mid now place (opening_at openings place) (moves (entry_at catalog place).place) (are.each place within);
   numbered = are.numbered;
   many_told = are.many_told;
   many_versions = are.many_versions;
   many_counts = are.many_counts;
   small = are.small;
-  used = are.used ++ u;
-  moves = moves_then (standing catalog s.places) are.used u before mid now are.moves moves;
-  others = keeps_then catalog Wanted before mid now are.others others;
 }
 
 -- a source that has a number stands among the openings
@@ -76,11 +96,11 @@ last_or : (place n : ℕ) → place < n + 1 → (place < n) ⊎ (place ≡ n)
 last_or place n h = elim (cases_lt place n) [ inl less ↦ inl less | inr more ↦ inr (omega (arith, more)) ]
 
 -- the next source isn't open
-pub opened_closed : (lists : List ℕ → Option (List Row)) (versions : List ℕ → Option ℕ) (catalog : List Entry) (Wanted : ℕ
+pub so_far_closed : (lists : List ℕ → Option (List Row)) (versions : List ℕ → Option ℕ) (catalog : List Entry) (Wanted : ℕ
     → Type 0) (before now : Counted) (openings : List Opening) (s : Sources) (next : ℕ)
-    → AreOpened lists versions catalog Wanted before now openings s → length openings ≡ next → (Wanted next → TroubleAt (before (entry_at catalog next).place) (now (entry_at catalog next).place))
-    → AreOpened lists versions catalog Wanted before now (openings ++ Closed ∷ []) s
-opened_closed lists versions catalog Wanted before now openings s next are long trouble = record {
+    → OpensSoFar lists versions catalog Wanted before now openings s → length openings ≡ next → (Wanted next → TroubleAt (before (entry_at catalog next).place) (now (entry_at catalog next).place))
+    → OpensSoFar lists versions catalog Wanted before now (openings ++ Closed ∷ []) s
+so_far_closed lists versions catalog Wanted before now openings s next are long trouble = record {
   each = λ place within.
       let inside : place < length openings + 1 = omega (arith, within, length-append openings (Closed ∷ [])) in
       elim (last_or place (length openings) inside) [
@@ -95,9 +115,6 @@ opened_closed lists versions catalog Wanted before now openings s next are long 
   many_versions = are.many_versions;
   many_counts = are.many_counts;
   small = are.small;
-  used = are.used;
-  moves = are.moves;
-  others = are.others;
 }
 
 -- the sources with one more
@@ -132,7 +149,7 @@ run_count_small size = small (nat_le size MAX_OBJECTS) (leb-true size MAX_OBJECT
     small false is = omega arith
 
 -- how many entries have a place, with one entry more
-standing_more : (catalog : List Entry) (entries : List ℕ) (entry : ℕ) (place : List ℕ)
+pub standing_more : (catalog : List Entry) (entries : List ℕ) (entry : ℕ) (place : List ℕ)
     → standing catalog (entries ++ entry ∷ []) place ≡ standing catalog entries place + one_at (entry_at catalog entry).place place
 standing_more catalog [] entry place = go (bytes_eq (entry_at catalog entry).place place)
   where
@@ -148,22 +165,20 @@ standing_more catalog (e ∷ entries) entry place = go (bytes_eq (entry_at catal
     go false e = e
 
 -- the next source is open
-pub opened_open : (lists : List ℕ → Option (List Row)) (versions : List ℕ → Option ℕ) (catalog : List Entry) (Wanted : ℕ
-    → Type 0) (before mid now : Counted) (openings : List Opening) (s : Sources) (next size version held : ℕ) (told : Option (List Row))
-    → AreOpened lists versions catalog Wanted before mid openings s → length openings ≡ next → next < length catalog → Wanted next → IsToldAs (entry_told lists catalog next) told size
-    → IsAtVersion (entry_told versions catalog next) held version → SameElsewhere (entry_at catalog next).place mid now → now (entry_at catalog next).place ≡ counts_taken (mid (entry_at catalog next).place)
-    → AreOpened lists versions catalog Wanted before now (openings ++ Open size (length s.places) version ∷ []) (more_sources s told held next (run_count size))
-opened_open lists versions catalog Wanted before mid now openings s next size version held told are long inside wanted is_told is_at elsewhere here_taken =
+pub so_far_open : (lists : List ℕ → Option (List Row)) (versions : List ℕ → Option ℕ) (catalog : List Entry) (Wanted : ℕ → Type 0) (before now : Counted)
+    (openings : List Opening) (s : Sources) (next size version held : ℕ) (told : Option (List Row))
+    → OpensSoFar lists versions catalog Wanted before now openings s → length openings ≡ next → next < length catalog → Wanted next
+    → IsToldAs (entry_told lists catalog next) told size → IsAtVersion (entry_told versions catalog next) held version
+    → OpensSoFar lists versions catalog Wanted before now (openings ++ Open size (length s.places) version ∷ []) (more_sources s told held next (run_count size))
+so_far_open lists versions catalog Wanted before now openings s next size version held told are long inside wanted is_told is_at =
     let o = Open size (length s.places) version in
-    let text = (entry_at catalog next).place in
-    let step = moves_taken text mid now elsewhere here_taken in
     record {
       each = λ place within.
           let within_more : place < length openings + 1 = omega (arith, within, length-append openings (o ∷ [])) in
           elim (last_or place (length openings) within_more) [
             | inl old ↦ subst (IsOpening lists versions catalog (more_sources s told held next (run_count size)) Wanted before now place) (sym (get_or_append_left openings (o ∷ []) Closed place old))
                 (still_opening lists versions catalog s told held next (run_count size) Wanted before now place (opening_at openings place) are.many_told are.many_versions are.many_counts
-                (opening_on lists versions catalog s Wanted before mid now place (opening_at openings place) (moves_at [] mid now (entry_at catalog place).place step) (are.each place old)))
+                (are.each place old))
             | inr new ↦
                 let here : opening_at (openings ++ o ∷ []) place ≡ o = get_or_push openings o Closed place (sym new) in
                 let same : next ≡ place = sym long ∙ sym new in
@@ -196,10 +211,6 @@ opened_open lists versions catalog Wanted before mid now openings s next size ve
       many_versions = omega (arith, length-append s.versions (held ∷ []), length-append s.places (next ∷ []), are.many_versions);
       many_counts = omega (arith, length-append s.counts (run_count size ∷ []), length-append s.places (next ∷ []), are.many_counts);
       small = All-push (λ count. count ≤ MAX_OBJECTS) s.counts (run_count size) are.small (run_count_small size);
-      used = are.used ++ [];
-      moves = moves_on (standing catalog s.places) (one_at text) (standing catalog (s.places ++ next ∷ [])) are.used [] before mid now are.moves step
-          (standing_more catalog s.places next);
-      others = keeps_then catalog Wanted before mid now are.others (keeps_here catalog Wanted next text mid now wanted refl elsewhere);
     }
 
 -- the entry at a place
@@ -216,84 +227,44 @@ pub match_some : {X : Type 0} (o : Option X) (P : Type 0) (Q : X → Type 0) (x 
 match_some None P Q x h e = absurd cc
 match_some (Some y) P Q x h e = subst Q (same_Some y x e) h
 
-abbrev sources_of : List (Option (List Row)) → List ℕ → List ℕ → List ℕ → Sources
-sources_of told held places counts = record { told = told; versions = held; places = places; counts = counts }
-
 -- the same in other words
+pub sources_as : (told told_now : List (Option (List Row))) (held held_now places places_now counts counts_now : List ℕ) → told_now ≡ told → held_now ≡ held → places_now ≡ places
+    → counts_now ≡ counts → sources_by told_now held_now places_now counts_now ≡ sources_by told held places counts
+sources_as told told_now held held_now places places_now counts counts_now t h p c = λ i. sources_by (t i) (h i) (p i) (c i)
+
 pub opened_as : (lists : List ℕ → Option (List Row)) (versions : List ℕ → Option ℕ) (catalog : List Entry) (Wanted : ℕ
     → Type 0) (before now : Counted) (os os_now : List Opening) (told told_now : List (Option (List Row))) (held held_now places places_now counts counts_now : List ℕ)
-    → os_now ≡ os → told_now ≡ told → held_now ≡ held → places_now ≡ places → counts_now ≡ counts → AreOpened lists versions catalog Wanted before now os (sources_of told held places counts) → AreOpened lists versions catalog Wanted before now os_now (sources_of told_now held_now places_now counts_now)
+    → os_now ≡ os → told_now ≡ told → held_now ≡ held → places_now ≡ places → counts_now ≡ counts → AreOpened lists versions catalog Wanted before now os (sources_by told held places counts)
+    → AreOpened lists versions catalog Wanted before now os_now (sources_by told_now held_now places_now counts_now)
 opened_as lists versions catalog Wanted before now os os_now told told_now held held_now places places_now counts counts_now o t h p c are =
-    subst (λ x. AreOpened lists versions catalog Wanted before now x (sources_of told_now held_now places_now counts_now)) (sym o)
-    (subst (λ x. AreOpened lists versions catalog Wanted before now os (sources_of x held_now places_now counts_now)) (sym t)
-    (subst (λ x. AreOpened lists versions catalog Wanted before now os (sources_of told x places_now counts_now)) (sym h)
-    (subst (λ x. AreOpened lists versions catalog Wanted before now os (sources_of told held x counts_now)) (sym p)
-    (subst (λ x. AreOpened lists versions catalog Wanted before now os (sources_of told held places x)) (sym c) are))))
-
--- a source was tried to be opened
-pub opened_tried : (lists : List ℕ → Option (List Row)) (versions : List ℕ → Option ℕ) (catalog : List Entry) (Wanted : ℕ
-    → Type 0) (before mid now : Counted) (place : ℕ) (text : List ℕ) (os : List Opening) (s : Sources)
-    → Wanted place → (entry_at catalog place).place ≡ text → SameElsewhere text mid now → TakesOneAtMost (mid text) (now text) → AreOpened lists versions catalog Wanted before mid os s → AreOpened lists versions catalog Wanted before now os s
-opened_tried lists versions catalog Wanted before mid now place text os s wanted at elsewhere moves are =
-    opened_moved lists versions catalog Wanted before mid now os s (at_place text moves.moves.counts) are (moves_here text mid now elsewhere moves) (keeps_here catalog Wanted place text mid now wanted at elsewhere)
-
--- it isn't open
-pub opened_not : (lists : List ℕ → Option (List Row)) (versions : List ℕ → Option ℕ) (catalog : List Entry) (Wanted : ℕ
-    → Type 0) (before mid now : Counted) (place : ℕ) (text : List ℕ) (os os_now : List Opening) (s : Sources)
-    → Wanted place → length os ≡ place → (entry_at catalog place).place ≡ text → SameElsewhere text mid now → TakesOneAtMost (mid text) (now text) → TroubleAt (mid text) (now text) → os_now ≡ os ++ Closed ∷ []
-    → AreOpened lists versions catalog Wanted before mid os s → AreOpened lists versions catalog Wanted before now os_now s
-opened_not lists versions catalog Wanted before mid now place text os os_now s wanted long at elsewhere moves trouble put are =
-    let tried = opened_tried lists versions catalog Wanted before mid now place text os s wanted at elsewhere moves are in
-    let earlier : MovesAt (before text) (mid text) = moves_at are.used before mid text are.moves in
-    let whole : TroubleAt (before text) (now text) = trouble_from (before text) (mid text) (now text) earlier trouble in
-    subst (λ x. AreOpened lists versions catalog Wanted before now x s) (sym put)
-    (opened_closed lists versions catalog Wanted before now os s place tried long (λ w. subst (λ t. TroubleAt (before t) (now t)) (sym at) whole))
-
--- it is open
-pub opened_some : (lists : List ℕ → Option (List Row)) (versions : List ℕ → Option ℕ) (catalog : List Entry) (Wanted : ℕ
-    → Type 0) (before mid now : Counted) (place size number version : ℕ) (text : List ℕ) (os os_now : List Opening)
-    (told told_now : List (Option (List Row))) (one : Option (List Row)) (held held_now : List ℕ) (has : ℕ) (places places_now counts counts_now : List ℕ)
-    → Wanted place → place < length catalog → length os ≡ place → number ≡ length places → (entry_at catalog place).place ≡ text → SameElsewhere text mid now → now text ≡ counts_taken (mid text) → IsToldAs (lists text) one size → IsAtVersion (versions text) has version
-    → os_now ≡ os ++ Open size number version ∷ [] → told_now ≡ told ++ one ∷ [] → held_now ≡ held ++ has ∷ [] → places_now ≡ places ++ place ∷ [] → counts_now ≡ counts ++ run_count size ∷ []
-    → AreOpened lists versions catalog Wanted before mid os (sources_of told held places counts) → AreOpened lists versions catalog Wanted before now os_now (sources_of told_now held_now places_now counts_now)
-opened_some lists versions catalog Wanted before mid now place size number version text os os_now told told_now one held held_now has places places_now counts counts_now wanted inside long many at elsewhere took is_told is_at o t h p c are =
-    let told_here : IsToldAs (entry_told lists catalog place) one size = subst (λ x. IsToldAs (lists x) one size) (sym at) is_told in
-    let at_here : IsAtVersion (entry_told versions catalog place) has version = subst (λ x. IsAtVersion (versions x) has version) (sym at) is_at in
-    let now_open = opened_open lists versions catalog Wanted before mid now os (sources_of told held places counts) place size version has one are long inside wanted told_here at_here
-    (subst (λ x. SameElsewhere x mid now) (sym at) elsewhere) (subst (λ x. now x ≡ counts_taken (mid x)) (sym at) took) in
-    opened_as lists versions catalog Wanted before now (os ++ Open size (length places) version ∷ []) os_now (told ++ one ∷ []) told_now (held ++ has ∷ []) held_now (places ++ place ∷ []) places_now (counts ++ run_count size ∷ []) counts_now
-    (o ∙ ap (λ n. os ++ Open size n version ∷ []) many) t h p c now_open
+    subst (λ x. AreOpened lists versions catalog Wanted before now x (sources_by told_now held_now places_now counts_now)) (sym o)
+    (subst (AreOpened lists versions catalog Wanted before now os) (sym (sources_as told told_now held held_now places places_now counts counts_now t h p c)) are)
 
 -- sources count at their places
 pub known_on : (catalog : List Entry) (before now : List ℕ → Bool) (places : List ℕ) → ((other : List ℕ) → before other ≡ true → now other ≡ true)
     → All (IsKnownAt catalog before) places → All (IsKnownAt catalog now) places
 known_on catalog before now places on all = All-weaker (IsKnownAt catalog before) (IsKnownAt catalog now) (λ place is. record { within = is.within; known = on (entry_at catalog place).place is.known }) places all
 
-pub known_more : (catalog : List Entry) (before now : List ℕ → Bool) (places same more : List ℕ) (place : ℕ) (text : List ℕ)
-    → ((other : List ℕ) → before other ≡ true → now other ≡ true) → place < length catalog → (entry_at catalog place).place ≡ text
-    → now text ≡ true → same ≡ places → more ≡ same ++ place ∷ [] → All (IsKnownAt catalog before) places → All (IsKnownAt catalog now) more
-known_more catalog before now places same more place text on inside at known is put all =
-    subst (All (IsKnownAt catalog now)) (sym (put ∙ ap (λ ps. ps ++ place ∷ []) is))
-    (All-push (IsKnownAt catalog now) places place (known_on catalog before now places on all) (record { within = inside; known = subst (λ t. now t ≡ true) (sym at) known }))
-
--- lists with one more
-pub one_longer : {X : Type 0} (xs same more : List X) (x : X) (n : ℕ) → same ≡ xs → more ≡ same ++ x ∷ [] → length xs ≡ n → length more ≡ n + 1
-one_longer {X} xs same more x n is put long =
-    let first : length same ≡ length xs = ap (length {A = X}) is in
-    let second : length more ≡ length (same ++ x ∷ []) = ap (length {A = X}) put in
-    omega (arith, first, second, length-append same (x ∷ []), long)
-
-pub both_longer : {X Y : Type 0} (xs xs_same xs_more : List X) (x : X) (ys ys_same ys_more : List Y) (y : Y) → xs_same ≡ xs → xs_more ≡ xs_same ++ x ∷ []
-    → ys_same ≡ ys → ys_more ≡ ys_same ++ y ∷ [] → length xs ≡ length ys → length xs_more ≡ length ys_more
-both_longer xs xs_same xs_more x ys ys_same ys_more y x_is x_put y_is y_put long =
-    one_longer xs xs_same xs_more x (length ys) x_is x_put long ∙ sym (one_longer ys ys_same ys_more y (length ys) y_is y_put refl)
-
--- what was told of places that are the same
-pub known_same : (catalog : List Entry) (before now : List ℕ → Bool) (places same : List ℕ) → ((other : List ℕ) → before other ≡ true → now other ≡ true)
-    → same ≡ places → All (IsKnownAt catalog before) places → All (IsKnownAt catalog now) same
-known_same catalog before now places same on is all = subst (All (IsKnownAt catalog now)) (sym is) (known_on catalog before now places on all)
-
+-- a source that is asked tells the list of its place
 pub told_as : (told one tells : Option (List Row)) (size : ℕ) → IfSome told (λ rows. one ≡ Some rows) → tells ≡ one → IfSome one (λ rows. size ≡ length rows)
     → IsToldAs told tells size
 told_as None one tells size list same stated = tt
 told_as (Some rows) one tells size list same stated = (same ∙ list, subst (λ o. IfSome o (λ rows. size ≡ length rows)) list stated)
+
+-- which sources are wanted, in other words
+opening_for : (lists : List ℕ → Option (List Row)) (versions : List ℕ → Option ℕ) (catalog : List Entry) (s : Sources) (W V : ℕ → Type 0) (before now : Counted) (place : ℕ)
+    (o : Opening) → (W place → V place) → (V place → W place) → IsOpening lists versions catalog s W before now place o → IsOpening lists versions catalog s V before now place o
+opening_for lists versions catalog s W V before now place Closed to from is = λ wanted. is (from wanted)
+opening_for lists versions catalog s W V before now place (Open size source version) to from is = (to is.0, is.1)
+
+pub so_far_for : (lists : List ℕ → Option (List Row)) (versions : List ℕ → Option ℕ) (catalog : List Entry) (W V : ℕ → Type 0) (before now : Counted) (openings : List Opening)
+    (s : Sources) → ((place : ℕ) → W place → V place) → ((place : ℕ) → V place → W place) → OpensSoFar lists versions catalog W before now openings s
+    → OpensSoFar lists versions catalog V before now openings s
+so_far_for lists versions catalog W V before now openings s to from are = record {
+  each = λ place within. opening_for lists versions catalog s W V before now place (opening_at openings place) (to place) (from place) (are.each place within);
+  numbered = are.numbered;
+  many_told = are.many_told;
+  many_versions = are.many_versions;
+  many_counts = are.many_counts;
+  small = are.small;
+}

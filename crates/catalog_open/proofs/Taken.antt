@@ -1,375 +1,306 @@
 -- Sources that are taken one after another, and asked for their sizes.
-use Rattle.std.proofs.Common.{◌≡◌, ℕ, zero, suc, ◌+◌, ◌<◌, ◌≤◌, ◌⊎◌, Bool, true, false, List, [], ◌∷◌, ◌++◌, length, length-append, Option, None, Some, slice_get, inl, inr, refl, sym, ap, ◌∙◌, subst, arith}
-use Rattle.std.proofs.lemmas.Bool.{cases_lt, false≢true}
+use Rattle.std.proofs.Common.{◌≡◌, ℕ, suc, ◌+◌, ◌<◌, ◌≤◌, Bool, true, false, List, [], ◌∷◌, ◌++◌, length, take, drop, Option, None, Some, Result, Ok, Err, inl, refl, sym, ap, ◌∙◌, subst, arith}
+use Rattle.std.proofs.Math.Seq.{take-append_seam}
+use Rattle.std.proofs.lemmas.Bool.{false≢true}
+use Rattle.std.proofs.lemmas.Option.{same_Some}
 use Rattle.std.proofs.lemmas.Slice.Eq.{bytes_eq-Decides}
 use Rattle.std.specs.Str.{bytes_eq}
-use Rattle.std.proofs.lemmas.Option.{slice_get_past}
-use Rattle.std.specs.Prelude.{if◌then◌else◌, IfErr, IfOk, IfSome, OnOk, Result, Ok, Err, slice_index_or}
-use Rattle.ranked_list.specs.declared.row.Row.{Row}
-use Rattle.source_api.specs.declared.counts.Counts.{Counts}
+use Rattle.std.specs.Prelude.{if◌then◌else◌, IfErr, IfOk, IfSome, OnOk}
+use Rattle.limits.specs.declared.Memory.{Memory as WantOfMemory}
 use Rattle.source_api.specs.declared.ledger.PlaceCounts.{PlaceCounts}
 use Rattle.source_api.specs.declared.source.Trouble.{Trouble}
+use Rattle.source_api.specs.declared.source.FailKind.TheVariants as kind
+use Rattle.source_api.specs.declared.source.Trouble.TheVariants as trouble
+use Rattle.source_api.specs.Calls.{Call, with_call}
 use Rattle.source_api.specs.Counting.{GaveNothing, IsNoMove, TroubleHasCause}
-use Rattle.source_api.specs.Places.{CountsTakes, SameAtEach, SameElsewhere}
+use Rattle.source_api.specs.Places.{CountsTakes, HasTakeCause, SameAtEach, SameElsewhere, counts_taken}
 use Rattle.catalog_text.specs.Catalog.{Listed as Entry}
-use Rattle.catalog_open.specs.declared.taking.Held.{Held}
-use Rattle.catalog_open.specs.Entries.{entry_at, is_marked}
-use Rattle.catalog_open.specs.Openings.{AsksFor, Counted, one_at}
-use Rattle.catalog_open.specs.Takings.{Answers, AreAsked, AreKnown, AreTaken, IsAsked, IsAskedAt, IsTaken, KnowsHeld, TakesNext, Took, Visits, marked_before}
+use Rattle.catalog_open.specs.declared.taking.OpenEntry.{OpenEntry}
+use Rattle.catalog_open.specs.declared.taking.OpenEntry.TheVariants.{Unwanted, NotTaken, Taken}
+use Rattle.catalog_open.specs.Entries.{IsMarked, entry_at, is_marked}
+use Rattle.catalog_open.specs.Openings.{AsksFor, Counted, KeepsOthers, MovesAt, MovesBut, none_held, one_at}
+use Rattle.catalog_open.specs.Takings.{AllBecame, AreAsked, AreTaken, Became, IsAsked, IsNew, SameShelf, ShelfView, SourceView, TakesOne, Took, held_at, held_one, not_taken}
+use Rattle.catalog_open.proofs.Moving.{keeps_here, keeps_then, moves_at, moves_failed, moves_nothing, moves_on, moves_still, moves_taken, trouble_from, trouble_on}
 use Rattle.catalog_open.proofs.Once.{asks_failed, asks_given, asks_here, asks_none}
 use Rattle.catalog_open.proofs.Opens.{told_as}
 
-pub none_before : (marks : List Bool) → marked_before marks zero ≡ 0
-none_before [] = refl
-none_before (mark ∷ marks) = refl
+pub same_shelf : (v : ShelfView) → SameShelf v v
+same_shelf v = record { texts = λ place. refl; lists = λ place. refl; versions = λ place. refl; known = λ place is. is }
 
--- one place more, which is marked or isn't
-pub before_marked : (marks : List Bool) (n : ℕ) → n < length marks → is_marked marks n ≡ true → marked_before marks (suc n) ≡ suc (marked_before marks n)
-before_marked [] n h m = absurd (omega (arith, h))
-before_marked (mark ∷ marks) zero h m = ap (λ b. if b then suc (marked_before marks zero) else marked_before marks zero) m ∙ ap suc (none_before marks)
-before_marked (mark ∷ marks) (suc n) h m = go mark (before_marked marks n (omega (arith, h)) m)
-  where
-    go : (b : Bool) → marked_before marks (suc n) ≡ suc (marked_before marks n)
-        → (if b then suc (marked_before marks (suc n)) else marked_before marks (suc n)) ≡ suc (if b then suc (marked_before marks n) else marked_before marks n)
-    go true e = ap suc e
-    go false e = e
-
-pub before_passed : (marks : List Bool) (n : ℕ) → n < length marks → is_marked marks n ≡ false → marked_before marks (suc n) ≡ marked_before marks n
-before_passed [] n h m = absurd (omega (arith, h))
-before_passed (mark ∷ marks) zero h m = ap (λ b. if b then suc (marked_before marks zero) else marked_before marks zero) m ∙ none_before marks
-before_passed (mark ∷ marks) (suc n) h m = go mark (before_passed marks n (omega (arith, h)) m)
-  where
-    go : (b : Bool) → marked_before marks (suc n) ≡ marked_before marks n
-        → (if b then suc (marked_before marks (suc n)) else marked_before marks (suc n)) ≡ (if b then suc (marked_before marks n) else marked_before marks n)
-    go true e = ap suc e
-    go false e = e
-
-pub before_grows : (marks : List Bool) (m n : ℕ) → m ≤ n → marked_before marks m ≤ marked_before marks n
-before_grows [] m n h = omega arith
-before_grows (mark ∷ marks) zero n h = omega arith
-before_grows (mark ∷ marks) (suc m) zero h = absurd (omega (arith, h))
-before_grows (mark ∷ marks) (suc m) (suc n) h = go mark (before_grows marks m n (omega (arith, h)))
-  where
-    go : (b : Bool) → marked_before marks m ≤ marked_before marks n
-        → (if b then suc (marked_before marks m) else marked_before marks m) ≤ (if b then suc (marked_before marks n) else marked_before marks n)
-    go true e = omega (arith, e)
-    go false e = e
-
--- a marked place stands before those that are marked by a later one
-pub before_within : (marks : List Bool) (m n : ℕ) → m < n → n ≤ length marks → is_marked marks m ≡ true → marked_before marks m < marked_before marks n
-before_within marks m n less within m_marked =
-    let one = before_marked marks m (omega (arith, less, within)) m_marked in
-    let more = before_grows marks (suc m) n (omega (arith, less)) in
-    omega (arith, one, more)
-
--- what stood in a list stands there when it grows
-pub stands_on : {X : Type 0} (xs ys : List X) (i : ℕ) → i < length xs → slice_get (xs ++ ys) i ≡ slice_get xs i
-stands_on [] ys i h = absurd (omega (arith, h))
-stands_on (x ∷ xs) ys zero h = refl
-stands_on (x ∷ xs) ys (suc i) h = stands_on xs ys i (omega (arith, h))
-
-pub stands_last : {X : Type 0} (xs : List X) (x : X) → slice_get (xs ++ x ∷ []) (length xs) ≡ Some x
-stands_last [] x = refl
-stands_last (y ∷ xs) x = stands_last xs x
-
--- no more places are marked than there are
-pub before_least : (marks : List Bool) (n : ℕ) → marked_before marks n ≤ n
-before_least [] n = omega arith
-before_least (mark ∷ marks) zero = omega arith
-before_least (mark ∷ marks) (suc n) = go mark (before_least marks n)
-  where
-    go : (b : Bool) → marked_before marks n ≤ n → (if b then suc (marked_before marks n) else marked_before marks n) ≤ suc n
-    go true e = omega (arith, e)
-    go false e = omega (arith, e)
-
--- a line of moments with one moment more
-abbrev pick : {n k : ℕ} → (n < k) ⊎ (k ≤ n) → Counted → Counted → Counted
-pick (inl past) old now = now
-pick (inr here) old now = old
-
-abbrev later : (ℕ → Counted) → ℕ → Counted → ℕ → Counted
-later at n now k = pick (cases_lt n k) (at k) now
-
-later_old : (at : ℕ → Counted) (n : ℕ) (now : Counted) (k : ℕ) → k ≤ n → later at n now k ≡ at k
-later_old at n now k h = by (cases_lt n k)
-  where
-    by : (c : (n < k) ⊎ (k ≤ n)) → pick c (at k) now ≡ at k
-    by (inl past) = absurd (omega (arith, h, past))
-    by (inr here) = refl
-
-later_new : (at : ℕ → Counted) (n : ℕ) (now : Counted) (k : ℕ) → n < k → later at n now k ≡ now
-later_new at n now k h = by (cases_lt n k)
-  where
-    by : (c : (n < k) ⊎ (k ≤ n)) → pick c (at k) now ≡ now
-    by (inl past) = refl
-    by (inr here) = absurd (omega (arith, h, here))
-
--- sources that are held count at their places
-pub known_later : {S : Type 0} (knows knows_now : List ℕ → Bool) (text : List ℕ) (t : Option (Option (Held S))) → ((other : List ℕ) → knows other ≡ true → knows_now other ≡ true)
-    → KnowsHeld knows text t → KnowsHeld knows_now text t
-known_later knows knows_now text None on is = tt
-known_later knows knows_now text (Some None) on is = tt
-known_later knows knows_now text (Some (Some held)) on is = on text is
-
-pub known_past : {S : Type 0} (knows : List ℕ → Bool) (text : List ℕ) (t : Option (Option (Held S))) → t ≡ None → KnowsHeld knows text t
-known_past knows text t none = subst (KnowsHeld knows text) (sym none) tt
-
-module _ {S : Type 0} (list : S → Option (List Row)) (states : S → Option ℕ) (at_hand : S → ℕ) (counts : S → Counts) where
-  -- it was asked for so
-  pub asks_took : (found : Option (Held S)) (before now : PlaceCounts) → Took list states at_hand counts found before now → AsksFor 1 before now
-  asks_took None before now took = asks_failed before now took.untaken took.rose
-  asks_took (Some held) before now took = asks_given before now (ap (λ (c : PlaceCounts). c.taken) took) (ap (λ (c : PlaceCounts). c.take_faults) took)
-
-  -- a new source was asked for its size
-  stated_then : (told stated : Option ℕ) (held : ℕ) → IfSome told (λ v. stated ≡ Some v) → IfSome stated (λ v. held ≡ v) → IfSome told (λ v. held ≡ v)
-  stated_then None stated held is at = tt
-  stated_then (Some v) stated held is at = subst (λ o. IfSome o (λ w. held ≡ w)) is at
-
-  pub asked_now : (source source_now : S) (r : Result ℕ Trouble) → list source_now ≡ list source → GaveNothing (counts source) (counts source_now)
-      → OnOk r (counts source_now ≡ counts source) → IfErr r (TroubleHasCause (counts source) (counts source_now)) → IfErr r IsNoMove
-      → IfOk r (λ size. IfSome (list source) (λ rows. size ≡ length rows)) → OnOk r (IfSome (states source) (λ v. at_hand source_now ≡ v))
-      → (told : Option (List Row)) (version : Option ℕ) → Answers list states at_hand counts told version source None → Answers list states at_hand counts told version source_now (Some r)
-  asked_now source source_now (Ok size) same given quiet cause unmoved sized at told version new = record {
-    fresh = quiet ∙ new.fresh;
-    tells = told_as told (list source) (list source_now) size new.tells same sized;
-    stated = stated_then version (states source) (at_hand source_now) new.stated at;
-  }
-  asked_now source source_now (Err trouble) same given quiet cause unmoved sized at told version new = record {
-    cause = subst (λ c. TroubleHasCause c (counts source_now) trouble) new.fresh cause;
-    given = subst (λ c. GaveNothing c (counts source_now)) new.fresh given;
-    unmoved = unmoved;
-  }
-
-  -- each was asked
-  pub each_asked : (xs ys : List (Option (Held S))) → length ys ≡ length xs
-      → ((i : ℕ) (d : Option (Held S)) → i < length xs → IsAsked list states at_hand counts (slice_index_or xs i d) (slice_index_or ys i d)) → AreAsked list states at_hand counts xs ys
-  each_asked [] [] long each i = tt
-  each_asked [] (y ∷ ys) long each i = absurd (omega (arith, long))
-  each_asked (x ∷ xs) [] long each i = absurd (omega (arith, long))
-  each_asked (x ∷ xs) (y ∷ ys) long each zero = each 0 x (omega arith)
-  each_asked (x ∷ xs) (y ∷ ys) long each (suc i) = each_asked xs ys (omega (arith, long)) (λ j d h. each (suc j) d (omega (arith, h))) i
-
-module _ {S : Type 0} (list : S → Option (List Row)) (states : S → Option ℕ) (at_hand : S → ℕ) (counts : S → Counts)
-    (lists : List ℕ → Option (List Row)) (versions : List ℕ → Option ℕ) (catalog : List Entry) (marks : List Bool) where
-  abbrev Seen : Bool → ℕ → Option (Option (Held S)) → Counted → Counted → Type 0
-  Seen marked place taking before now = Visits list states at_hand counts lists versions (entry_at catalog place).place marked taking before now
-
-  abbrev Line : List (Option (Held S)) → ℕ → Counted → Counted → Type 0
-  Line takings many before now = AreTaken list states at_hand counts lists versions catalog marks takings many before now
-
-  -- a visit in other words
-  visit_as : (marked : Bool) (place : ℕ) (taking taking_now : Option (Option (Held S))) (before before_now now now_now : Counted) → (marked ≡ true → taking_now ≡ taking)
-      → before_now ≡ before → now_now ≡ now → Seen marked place taking before now → Seen marked place taking_now before_now now_now
-  visit_as true place taking taking_now before before_now now now_now same first second seen =
-      subst (λ t. Seen true place t before_now now_now) (sym (same refl)) (subst (λ b. Seen true place taking b now_now) (sym first) (subst (Seen true place taking before) (sym second) seen))
-  visit_as false place taking taking_now before before_now now now_now same first second seen =
-      subst (λ b. SameAtEach b now_now) (sym first) (subst (SameAtEach before) (sym second) seen)
-
-  -- nothing was taken yet
-  pub taken_none : (takings : List (Option (Held S))) (before : Counted) → Line takings 0 before before
-  taken_none takings before = record { at = λ k. before; begins = refl; ends = refl; each = λ place h. absurd (omega (arith, h)) }
-
-  -- one entry more was visited
-  pub taken_more : (knows : List ℕ → Bool) (takings takings_now : List (Option (Held S))) (place : ℕ) (before mid now : Counted) → length takings ≡ marked_before marks place → place < length marks
-      → Line takings place before mid → TakesNext list states at_hand counts lists versions knows (entry_at catalog place).place (is_marked marks place) takings takings_now mid now
-      → Line takings_now (suc place) before now
-  taken_more knows takings takings_now place before mid now long within line next = record {
-    at = later line.at place now;
-    begins = later_old line.at place now 0 (omega arith) ∙ line.begins;
-    ends = later_new line.at place now (suc place) (omega arith);
-    each = λ k h. elim (cases_lt k place) [
-      | inl old ↦ visit_as (is_marked marks k) k (slice_get takings (marked_before marks k)) (slice_get takings_now (marked_before marks k)) (line.at k) (later line.at place now k) (line.at (suc k)) (later line.at place now (suc k))
-          (λ m. grown (is_marked marks place) next (marked_before marks k) (let less = before_within marks k place old (omega (arith, within)) m in omega (arith, less, long)))
-          (later_old line.at place now k (omega (arith, old))) (later_old line.at place now (suc k) (omega (arith, old))) (line.each k old)
-      | inr more ↦
-          let here : k ≡ place = omega (arith, h, more) in
-          subst (λ p. Seen (is_marked marks p) p (slice_get takings_now (marked_before marks p)) (later line.at place now p) (later line.at place now (suc p))) (sym here)
-          (visit_as (is_marked marks place) place (slice_get takings_now (marked_before marks place)) (slice_get takings_now (marked_before marks place)) mid (later line.at place now place) now (later line.at place now (suc place))
-          (λ m. refl) (later_old line.at place now place (omega arith) ∙ line.ends) (later_new line.at place now (suc place) (omega arith)) (visited (is_marked marks place) next))
-    ];
-  }
-    where
-      grown : (marked : Bool) → TakesNext list states at_hand counts lists versions knows (entry_at catalog place).place marked takings takings_now mid now → (i : ℕ) → i < length takings
-          → slice_get takings_now i ≡ slice_get takings i
-      grown true next i h = ap (λ xs. slice_get xs i) next.put ∙ stands_on takings (next.found ∷ []) i h
-      grown false next i h = ap (λ xs. slice_get xs i) next.1
-
-      visited : (marked : Bool) → TakesNext list states at_hand counts lists versions knows (entry_at catalog place).place marked takings takings_now mid now
-          → Seen marked place (slice_get takings_now (marked_before marks place)) mid now
-      visited true next =
-          subst (λ t. Seen true place t mid now) (sym (ap (slice_get takings_now) (sym long) ∙ ap (λ xs. slice_get xs (length takings)) next.put ∙ stands_last takings next.found)) next.taken
-      visited false next = next.0
-
-  -- memory was refused at an entry that is wanted
-  pub taken_short : (takings : List (Option (Held S))) (place : ℕ) (before mid now : Counted) → length takings ≡ marked_before marks place → place < length marks
-      → Line takings place before mid → SameAtEach mid now → Line takings (length marks) before now
-  taken_short takings place before mid now long within line same = record {
-    at = later line.at place now;
-    begins = later_old line.at place now 0 (omega arith) ∙ line.begins;
-    ends = later_new line.at place now (length marks) within;
-    each = λ k h. elim (cases_lt k place) [
-      | inl old ↦ visit_as (is_marked marks k) k (slice_get takings (marked_before marks k)) (slice_get takings (marked_before marks k)) (line.at k) (later line.at place now k) (line.at (suc k)) (later line.at place now (suc k))
-          (λ m. refl) (later_old line.at place now k (omega (arith, old))) (later_old line.at place now (suc k) (omega (arith, old))) (line.each k old)
-      | inr more ↦
-          let none : slice_get takings (marked_before marks k) ≡ None = slice_get_past takings (marked_before marks k) (let grows = before_grows marks place k more in omega (arith, grows, long)) in
-          let step : SameAtEach (later line.at place now k) now = elim (cases_lt place k) [
-            | inl past ↦ subst (λ b. SameAtEach b now) (sym (later_new line.at place now k past)) (λ text. refl)
-            | inr here ↦ subst (λ b. SameAtEach b now) (sym (later_old line.at place now k here ∙ ap line.at (let e : k ≡ place = omega (arith, here, more) in e) ∙ line.ends)) same
-          ] in
-          missed (is_marked marks k) k (slice_get takings (marked_before marks k)) (later line.at place now k) (later line.at place now (suc k)) none
-          (subst (SameAtEach (later line.at place now k)) (sym (later_new line.at place now (suc k) (omega (arith, more)))) step)
-    ];
-  }
-    where
-      missed : (marked : Bool) (k : ℕ) (taking : Option (Option (Held S))) (before now : Counted) → taking ≡ None → SameAtEach before now → Seen marked k taking before now
-      missed true k taking before now none same = subst (λ t. Seen true k t before now) (sym none) same
-      missed false k taking before now none same = same
-
-  -- those that were taken were asked for their sizes
-  pub taken_asked : (takings takings_now : List (Option (Held S))) (many : ℕ) (before now : Counted) → AreAsked list states at_hand counts takings takings_now
-      → Line takings many before now → Line takings_now many before now
-  taken_asked takings takings_now many before now asked line = record {
-    at = line.at;
-    begins = line.begins;
-    ends = line.ends;
-    each = λ k h. by (is_marked marks k) k (slice_get takings (marked_before marks k)) (slice_get takings_now (marked_before marks k)) (asked (marked_before marks k)) (line.each k h);
-  }
-    where
-      by : (marked : Bool) (k : ℕ) (t u : Option (Option (Held S))) → IsAskedAt list states at_hand counts t u → Seen marked k t (line.at k) (line.at (suc k))
-          → Seen marked k u (line.at k) (line.at (suc k))
-      by false k t u is seen = seen
-      by true k None None is seen = seen
-      by true k (Some None) (Some None) is seen = seen
-      by true k (Some (Some t)) (Some (Some u)) is seen = record { elsewhere = seen.elsewhere; here = seen.here; stands = is (lists (entry_at catalog k).place) (versions (entry_at catalog k).place) seen.stands }
-      by true k None (Some u) is seen = absurd is
-      by true k (Some t) None is seen = absurd is
-      by true k (Some None) (Some (Some u)) is seen = absurd is
-      by true k (Some (Some t)) (Some None) is seen = absurd is
-
-  -- sources count at their places, when one more was taken
-  pub known_none : (knows : List ℕ → Bool) (takings : List (Option (Held S))) → AreKnown knows catalog marks takings 0
-  known_none knows takings = λ place h m. absurd (omega (arith, h))
-
-  pub known_asked : (knows : List ℕ → Bool) (takings takings_now : List (Option (Held S))) (many : ℕ) → AreAsked list states at_hand counts takings takings_now
-      → AreKnown knows catalog marks takings many → AreKnown knows catalog marks takings_now many
-  known_asked knows takings takings_now many asked known = λ k h m. by (entry_at catalog k).place (slice_get takings (marked_before marks k)) (slice_get takings_now (marked_before marks k)) (asked (marked_before marks k)) (known k h m)
-    where
-      by : (text : List ℕ) (t u : Option (Option (Held S))) → IsAskedAt list states at_hand counts t u → KnowsHeld knows text t → KnowsHeld knows text u
-      by text None None is seen = tt
-      by text (Some None) (Some None) is seen = tt
-      by text (Some (Some t)) (Some (Some u)) is seen = seen
-      by text None (Some u) is seen = absurd is
-      by text (Some t) None is seen = absurd is
-      by text (Some None) (Some (Some u)) is seen = absurd is
-      by text (Some (Some t)) (Some None) is seen = absurd is
-
-  pub known_next : (knows knows_now : List ℕ → Bool) (takings takings_now : List (Option (Held S))) (place : ℕ) (mid now : Counted) → length takings ≡ marked_before marks place → place < length marks
-      → ((other : List ℕ) → knows other ≡ true → knows_now other ≡ true) → AreKnown knows catalog marks takings place
-      → TakesNext list states at_hand counts lists versions knows_now (entry_at catalog place).place (is_marked marks place) takings takings_now mid now
-      → AreKnown knows_now catalog marks takings_now (suc place)
-  known_next knows knows_now takings takings_now place mid now long within on known next = λ k h m. elim (cases_lt k place) [
-    | inl old ↦ subst (KnowsHeld knows_now (entry_at catalog k).place) (sym (grown (is_marked marks place) next (marked_before marks k) (let less = before_within marks k place old (omega (arith, within)) m in omega (arith, less, long))))
-        (known_later knows knows_now (entry_at catalog k).place (slice_get takings (marked_before marks k)) on (known k old m))
-    | inr more ↦
-        let here : k ≡ place = omega (arith, h, more) in
-        subst (λ p. KnowsHeld knows_now (entry_at catalog p).place (slice_get takings_now (marked_before marks p))) (sym here)
-        (last (is_marked marks place) (ap (is_marked marks) (sym here) ∙ m) next)
-  ]
-    where
-      grown : (marked : Bool) → TakesNext list states at_hand counts lists versions knows_now (entry_at catalog place).place marked takings takings_now mid now → (i : ℕ) → i < length takings
-          → slice_get takings_now i ≡ slice_get takings i
-      grown true next i h = ap (λ xs. slice_get xs i) next.put ∙ stands_on takings (next.found ∷ []) i h
-      grown false next i h = ap (λ xs. slice_get xs i) next.1
-
-      last : (marked : Bool) → marked ≡ true → TakesNext list states at_hand counts lists versions knows_now (entry_at catalog place).place marked takings takings_now mid now
-          → KnowsHeld knows_now (entry_at catalog place).place (slice_get takings_now (marked_before marks place))
-      last true is next =
-          subst (KnowsHeld knows_now (entry_at catalog place).place) (sym (ap (slice_get takings_now) (sym long) ∙ ap (λ xs. slice_get xs (length takings)) next.put ∙ stands_last takings next.found)) next.known
-      last false is next = absurd (cc)
-
-  -- where memory was refused at an entry
-  pub known_short : (knows knows_now : List ℕ → Bool) (takings : List (Option (Held S))) (place : ℕ) → length takings ≡ marked_before marks place
-      → ((other : List ℕ) → knows other ≡ true → knows_now other ≡ true) → AreKnown knows catalog marks takings place → AreKnown knows_now catalog marks takings (length marks)
-  known_short knows knows_now takings place long on known = λ k h m. elim (cases_lt k place) [
-    | inl old ↦ known_later knows knows_now (entry_at catalog k).place (slice_get takings (marked_before marks k)) on (known k old m)
-    | inr more ↦ known_past knows_now (entry_at catalog k).place (slice_get takings (marked_before marks k))
-        (slice_get_past takings (marked_before marks k) (let grows = before_grows marks place k more in omega (arith, grows, long)))
-  ]
-
-  -- what a call says, in other words
-  pub next_as : (lists_now : List ℕ → Option (List Row)) (versions_now : List ℕ → Option ℕ) (knows : List ℕ → Bool) (text : List ℕ) (b b_now : Bool) (takings takings_now : List (Option (Held S)))
-      (mid now : Counted) → SameAtEach lists lists_now → SameAtEach versions versions_now → b_now ≡ b
-      → TakesNext list states at_hand counts lists_now versions_now knows text b takings takings_now mid now → TakesNext list states at_hand counts lists versions knows text b_now takings takings_now mid now
-  next_as lists_now versions_now knows text b b_now takings takings_now mid now same same_versions is next =
-      subst (λ x. TakesNext list states at_hand counts lists versions knows text x takings takings_now mid now) (sym is)
-      (subst (λ l. TakesNext list states at_hand counts l versions knows text b takings takings_now mid now) (λ i place. same place i)
-      (subst (λ v. TakesNext list states at_hand counts lists_now v knows text b takings takings_now mid now) (λ i place. same_versions place i) next))
-
-  -- and as many were taken
-  pub many_next : (knows : List ℕ → Bool) (takings takings_now : List (Option (Held S))) (place : ℕ) (mid now : Counted) → length takings ≡ marked_before marks place → place < length marks
-      → TakesNext list states at_hand counts lists versions knows (entry_at catalog place).place (is_marked marks place) takings takings_now mid now
-      → length takings_now ≡ marked_before marks (suc place)
-  many_next knows takings takings_now place mid now long within next = by (is_marked marks place) (λ m. before_marked marks place within m) (λ m. before_passed marks place within m) next
-    where
-      by : (marked : Bool) → (marked ≡ true → marked_before marks (suc place) ≡ suc (marked_before marks place)) → (marked ≡ false → marked_before marks (suc place) ≡ marked_before marks place)
-          → TakesNext list states at_hand counts lists versions knows (entry_at catalog place).place marked takings takings_now mid now → length takings_now ≡ marked_before marks (suc place)
-      by true more same next =
-          let put : length takings_now ≡ length (takings ++ next.found ∷ []) = ap (length {A = Option (Held S)}) next.put in
-          let one = more refl in
-          omega (arith, put, one, long, length-append takings (next.found ∷ []))
-      by false more same next = ap (length {A = Option (Held S)}) next.1 ∙ long ∙ sym (same refl)
-
-  -- the next entry isn't wanted, or its source was taken
-  pub takes_passed : (knows : List ℕ → Bool) (text : List ℕ) (wanted : Bool) (takings takings_now : List (Option (Held S))) (mid now : Counted) → wanted ≡ false → SameAtEach mid now
-      → takings_now ≡ takings → TakesNext list states at_hand counts lists versions knows text wanted takings takings_now mid now
-  takes_passed knows text wanted takings takings_now mid now is same put =
-      subst (λ w. TakesNext list states at_hand counts lists versions knows text w takings takings_now mid now) (sym is) (same, put)
-
-  pub takes_one : (knows : List ℕ → Bool) (text here : List ℕ) (wanted : Bool) (takings takings_mid takings_now : List (Option (Held S))) (found : Option (Held S)) (mid now : Counted) → wanted ≡ true → here ≡ text
-      → takings_mid ≡ takings → takings_now ≡ takings_mid ++ found ∷ [] → IsTaken list states at_hand counts lists versions here found mid now → KnowsHeld knows here (Some found)
-      → TakesNext list states at_hand counts lists versions knows text wanted takings takings_now mid now
-  takes_one knows text here wanted takings takings_mid takings_now found mid now is at kept put taken known =
-      subst (λ w. TakesNext list states at_hand counts lists versions knows text w takings takings_now mid now) (sym is) (record {
-        found = found;
-        put = put ∙ ap (λ xs. xs ++ found ∷ []) kept;
-        taken = subst (λ t. IsTaken list states at_hand counts lists versions t found mid now) at taken;
-        known = subst (λ t. KnowsHeld knows t (Some found)) at known;
-      })
-
-  pub asks_next : (knows : List ℕ → Bool) (text : List ℕ) (wanted : Bool) (takings takings_now : List (Option (Held S))) (mid now : Counted)
-      → TakesNext list states at_hand counts lists versions knows text wanted takings takings_now mid now → (place : List ℕ)
-      → AsksFor (if wanted then one_at text place else 0) (mid place) (now place)
-  asks_next knows text true takings takings_now mid now next place =
-      asks_here text text mid now refl next.taken.elsewhere (asks_took list states at_hand counts next.found (mid text) (now text) next.taken.here) place
-  asks_next knows text false takings takings_now mid now next place = asks_none (mid place) (now place) (next.0 place)
-
--- calls that take sources
-pub takes_still : (at : PlaceCounts) → CountsTakes at at
-takes_still at = record { later = omega arith; others = refl }
-
-pub takes_then : (before mid now : PlaceCounts) → CountsTakes before mid → CountsTakes mid now → CountsTakes before now
-takes_then before mid now first second = record {
-  later = omega (arith, first.later, second.later);
-  others = second.others ∙ ap (λ (c : PlaceCounts). record c { take_faults = now.take_faults; taken = now.taken }) first.others;
+pub same_then : (before mid now : ShelfView) → SameShelf before mid → SameShelf mid now → SameShelf before now
+same_then before mid now first second = record {
+  texts = λ place. second.texts place ∙ first.texts place;
+  lists = λ place. second.lists place ∙ first.lists place;
+  versions = λ place. second.versions place ∙ first.versions place;
+  known = λ place is. second.known place (first.known place is);
 }
 
-pub takes_same : (before now : PlaceCounts) → now ≡ before → CountsTakes before now
-takes_same before now same = subst (CountsTakes before) (sym same) (takes_still before)
-
--- and at one place alone
-pub takes_each : (text : List ℕ) (before now : Counted) → SameElsewhere text before now → CountsTakes (before text) (now text) → (place : List ℕ) → CountsTakes (before place) (now place)
-takes_each text before now elsewhere here place = elim (bytes_eq text place) as (λ t. bytes_eq text place ≡ t → CountsTakes (before place) (now place)) [
-  | true ↦ λ e. subst (λ p. CountsTakes (before p) (now p)) ((bytes_eq-Decides text place).0 e) here
-  | false ↦ λ e. takes_same (before place) (now place) (elsewhere place (λ is. false≢true (sym e ∙ (bytes_eq-Decides text place).1 (sym is))))
-] refl
-
 -- nothing was counted, as memory was refused
-pub same_each : (text : List ℕ) (before now : Counted) → SameElsewhere text before now → now text ≡ before text → SameAtEach before now
+same_each : (text : List ℕ) (before now : Counted) → SameElsewhere text before now → now text ≡ before text → SameAtEach before now
 same_each text before now elsewhere here place = elim (bytes_eq text place) as (λ t. bytes_eq text place ≡ t → now place ≡ before place) [
   | true ↦ λ e. subst (λ p. now p ≡ before p) ((bytes_eq-Decides text place).0 e) here
   | false ↦ λ e. elsewhere place (λ is. false≢true (sym e ∙ (bytes_eq-Decides text place).1 (sym is)))
 ] refl
 
--- the next number, in two forms
-pub one_more : (n : ℕ) → suc n ≡ n + 1
-one_more n = omega arith
+-- how many are held, with one entry more
+pub held_push : {S : Type 0} (xs : List (OpenEntry S)) (x : OpenEntry S) (catalog : List Entry) (place : List ℕ) → length xs < length catalog
+    → held_at (xs ++ x ∷ []) catalog place ≡ held_at xs catalog place + held_one x (entry_at catalog (length xs)).place place
+held_push [] x [] place h = absurd (omega (arith, h))
+held_push [] x (one ∷ catalog) place h = omega arith
+held_push (y ∷ xs) x [] place h = absurd (omega (arith, h))
+held_push (y ∷ xs) x (one ∷ catalog) place h = let more = held_push xs x catalog place (omega (arith, h)) in omega (arith, more)
+
+module _ {S : Type 0} (view : S → SourceView) where
+  -- the shelf went on
+  became_on : (mark : Bool) (before mid now : ShelfView) (place : List ℕ) (entry : OpenEntry S) → SameShelf mid now → MovesAt (mid.at place) (now.at place)
+      → Became view mark before mid place entry → Became view mark before now place entry
+  became_on false before mid now place Unwanted same moves is = tt
+  became_on false before mid now place NotTaken same moves is = absurd is
+  became_on false before mid now place (Taken source size) same moves is = absurd is
+  became_on true before mid now place Unwanted same moves is = absurd is
+  became_on true before mid now place NotTaken same moves is = trouble_on (before.at place) (mid.at place) (now.at place) is moves
+  became_on true before mid now place (Taken source size) same moves is = (is.0, same.known place is.1)
+
+  pub all_on : (before mid now : ShelfView) (entries : List (OpenEntry S)) (catalog : List Entry) (marks : List Bool) → SameShelf mid now
+      → ((place : List ℕ) → MovesAt (mid.at place) (now.at place)) → AllBecame view before mid entries catalog marks → AllBecame view before now entries catalog marks
+  all_on before mid now [] catalog marks same moves are = tt
+  all_on before mid now (x ∷ xs) [] marks same moves are = absurd are
+  all_on before mid now (x ∷ xs) (one ∷ catalog) [] same moves are = absurd are
+  all_on before mid now (x ∷ xs) (one ∷ catalog) (mark ∷ marks) same moves are =
+      (became_on mark before mid now one.place x same (moves one.place) are.0, all_on before mid now xs catalog marks same moves are.1)
+
+  all_push : (before now : ShelfView) (xs : List (OpenEntry S)) (x : OpenEntry S) (catalog : List Entry) (marks : List Bool) → length xs < length catalog → length marks ≡ length catalog
+      → AllBecame view before now xs catalog marks → Became view (is_marked marks (length xs)) before now (entry_at catalog (length xs)).place x
+      → AllBecame view before now (xs ++ x ∷ []) catalog marks
+  all_push before now [] x [] marks h many are is = absurd (omega (arith, h))
+  all_push before now [] x (one ∷ catalog) [] h many are is = absurd (omega (arith, many))
+  all_push before now [] x (one ∷ catalog) (mark ∷ marks) h many are is = (is, tt)
+  all_push before now (y ∷ xs) x [] marks h many are is = absurd are
+  all_push before now (y ∷ xs) x (one ∷ catalog) [] h many are is = absurd are
+  all_push before now (y ∷ xs) x (one ∷ catalog) (mark ∷ marks) h many are is =
+      (are.0, all_push before now xs x catalog marks (omega (arith, h)) (omega (arith, many)) are.1 is)
+
+  -- a call that takes a source ended so
+  took_failed : (why : Trouble) (place : List ℕ) (before now : ShelfView) → SameShelf before now → SameElsewhere place before.at now.at
+      → CountsTakes (before.at place) (now.at place) → (now.at place).taken ≡ (before.at place).taken → HasTakeCause (before.at place) (now.at place) why
+      → TakesOne view true place before now (not_taken why)
+  took_failed (trouble.Fail kind.Failed) place before now same elsewhere counts untaken cause =
+      record { same = same; took = (elsewhere, record { counts = counts; untaken = untaken; rose = cause }) }
+  took_failed (trouble.Fail kind.Garbled) place before now same elsewhere counts untaken cause =
+      record { same = same; took = (elsewhere, record { counts = counts; untaken = untaken; rose = cause }) }
+  took_failed (trouble.Fail kind.Memory) place before now same elsewhere counts untaken cause =
+      record { same = same; took = same_each place before.at now.at elsewhere cause }
+  took_failed (trouble.Moved had other) place before now same elsewhere counts untaken cause = absurd cause
+
+  pub took_none : (why : Trouble) (wanted : Bool) (place : List ℕ) (before now : ShelfView) → wanted ≡ true → SameShelf before now → SameElsewhere place before.at now.at
+      → CountsTakes (before.at place) (now.at place) → (now.at place).taken ≡ (before.at place).taken → HasTakeCause (before.at place) (now.at place) why
+      → TakesOne view wanted place before now (not_taken why)
+  took_none why wanted place before now is same elsewhere counts untaken cause =
+      subst (λ w. TakesOne view w place before now (not_taken why)) (sym is) (took_failed why place before now same elsewhere counts untaken cause)
+
+  pub took_one : (wanted : Bool) (place : List ℕ) (before now : ShelfView) (source : S) → wanted ≡ true → SameShelf before now → SameElsewhere place before.at now.at
+      → now.at place ≡ counts_taken (before.at place) → IsNew (before.lists place) (before.versions place) (view source) → now.knows place ≡ true
+      → TakesOne view wanted place before now (Ok (Taken source None))
+  took_one wanted place before now source is same elsewhere taken new knows =
+      subst (λ w. TakesOne view w place before now (Ok (Taken source None))) (sym is) (record { same = same; took = (elsewhere, taken, new, knows) })
+
+  pub took_nothing : (wanted : Bool) (place : List ℕ) (shelf : ShelfView) → wanted ≡ false → TakesOne view wanted place shelf shelf (Ok Unwanted)
+  took_nothing wanted place shelf is = subst (λ w. TakesOne view w place shelf shelf (Ok Unwanted)) (sym is) (record { same = same_shelf shelf; took = λ other. refl })
+
+  -- how often the source of its place was asked for
+  pub took_asks : (entry : OpenEntry S) (wanted : Bool) (place : List ℕ) (before now : ShelfView) → Took view (Ok entry) wanted place before now → (other : List ℕ)
+      → AsksFor (if wanted then one_at place other else 0) (before.at other) (now.at other)
+  took_asks Unwanted false place before now took other = asks_none (before.at other) (now.at other) (took other)
+  took_asks Unwanted true place before now took other = absurd took
+  took_asks NotTaken false place before now took other = absurd took
+  took_asks NotTaken true place before now took other =
+      asks_here place place before.at now.at refl took.0 (asks_failed (before.at place) (now.at place) took.1.untaken took.1.rose) other
+  took_asks (Taken source None) false place before now took other = absurd took
+  took_asks (Taken source None) true place before now took other =
+      asks_here place place before.at now.at refl took.0
+      (asks_given (before.at place) (now.at place) (ap (λ (c : PlaceCounts). c.taken) took.1) (ap (λ (c : PlaceCounts). c.take_faults) took.1)) other
+  took_asks (Taken source (Some size)) false place before now took other = absurd took
+  took_asks (Taken source (Some size)) true place before now took other = absurd took
+
+  -- what was counted by it
+  took_moves : (entry : OpenEntry S) (wanted : Bool) (place : List ℕ) (before now : ShelfView) → Took view (Ok entry) wanted place before now
+      → MovesBut (held_one entry place) [] before.at now.at
+  took_moves Unwanted false place before now took = moves_still before.at now.at took
+  took_moves Unwanted true place before now took = absurd took
+  took_moves NotTaken false place before now took = absurd took
+  took_moves NotTaken true place before now took = moves_failed place before.at now.at took.0 took.1.counts took.1.untaken
+  took_moves (Taken source None) false place before now took = absurd took
+  took_moves (Taken source None) true place before now took = moves_taken place before.at now.at took.0 took.1
+  took_moves (Taken source (Some size)) false place before now took = absurd took
+  took_moves (Taken source (Some size)) true place before now took = absurd took
+
+  took_keeps : (entry : OpenEntry S) (catalog : List Entry) (marks : List Bool) (i : ℕ) (before now : ShelfView)
+      → Took view (Ok entry) (is_marked marks i) (entry_at catalog i).place before now → KeepsOthers catalog (IsMarked marks) before.at now.at
+  took_keeps entry catalog marks i before now took = by (is_marked marks i) entry (λ m. m) took
+    where
+      by : (mark : Bool) (x : OpenEntry S) → (mark ≡ true → is_marked marks i ≡ true) → Took view (Ok x) mark (entry_at catalog i).place before now
+          → KeepsOthers catalog (IsMarked marks) before.at now.at
+      by false Unwanted is took = λ other apart. took other
+      by true Unwanted is took = absurd took
+      by false NotTaken is took = absurd took
+      by true NotTaken is took = keeps_here catalog (IsMarked marks) i (entry_at catalog i).place before.at now.at (is refl) refl took.0
+      by false (Taken source None) is took = absurd took
+      by true (Taken source None) is took = keeps_here catalog (IsMarked marks) i (entry_at catalog i).place before.at now.at (is refl) refl took.0
+      by false (Taken source (Some size)) is took = absurd took
+      by true (Taken source (Some size)) is took = absurd took
+
+  -- what became of its entry since an earlier moment
+  took_became : (entry : OpenEntry S) (wanted : Bool) (place : List ℕ) (before mid now : ShelfView) → SameShelf before mid → MovesAt (before.at place) (mid.at place)
+      → Took view (Ok entry) wanted place mid now → Became view wanted before now place entry
+  took_became Unwanted false place before mid now same moves took = tt
+  took_became Unwanted true place before mid now same moves took = absurd took
+  took_became NotTaken false place before mid now same moves took = absurd took
+  took_became NotTaken true place before mid now same moves took = trouble_from (before.at place) (mid.at place) (now.at place) moves (inl took.1.rose)
+  took_became (Taken source None) false place before mid now same moves took = absurd took
+  took_became (Taken source None) true place before mid now same moves took = (
+    record {
+      fresh = took.2.fresh;
+      unasked = took.2.unasked;
+      tells = subst (λ list. IfSome list (λ rows. (view source).list ≡ Some rows)) (same.lists place) took.2.tells;
+      stated = subst (λ version. IfSome version (λ told. (view source).states ≡ Some told)) (same.versions place) took.2.stated;
+    },
+    took.3,
+  )
+  took_became (Taken source (Some size)) false place before mid now same moves took = absurd took
+  took_became (Taken source (Some size)) true place before mid now same moves took = absurd took
+
+  -- no entry was visited yet
+  pub taken_none : (catalog : List Entry) (marks : List Bool) (shelf : ShelfView) (entries : List (OpenEntry S)) → entries ≡ []
+      → AreTaken view catalog marks shelf shelf entries
+  taken_none catalog marks shelf entries none = subst (AreTaken view catalog marks shelf shelf) (sym none) (record {
+    same = same_shelf shelf;
+    became = tt;
+    moves = moves_nothing (held_at {S = S} [] catalog) shelf.at (λ place. refl);
+    others = λ place apart. refl;
+  })
+
+  -- one entry more was
+  pub taken_more : (catalog : List Entry) (marks : List Bool) (before mid now : ShelfView) (entries entries_now : List (OpenEntry S)) (entry : OpenEntry S) (i : ℕ)
+      → i ≡ length entries → i < length catalog → length marks ≡ length catalog → entries_now ≡ entries ++ entry ∷ [] → AreTaken view catalog marks before mid entries
+      → TakesOne view (is_marked marks i) (entry_at catalog i).place mid now (Ok entry) → AreTaken view catalog marks before now entries_now
+  taken_more catalog marks before mid now entries entries_now entry i stands within many put so one =
+      let here = (entry_at catalog i).place in
+      let step : MovesBut (held_one entry here) [] mid.at now.at = took_moves entry (is_marked marks i) here mid now one.took in
+      let few : length entries < length catalog = omega (arith, stands, within) in
+      subst (AreTaken view catalog marks before now) (sym put) (record {
+        same = same_then before mid now so.same one.same;
+        became = all_push before now entries entry catalog marks few many
+            (all_on before mid now entries catalog marks one.same (λ place. moves_at [] mid.at now.at place step) so.became)
+            (subst (λ n. Became view (is_marked marks n) before now (entry_at catalog n).place entry) stands
+            (took_became entry (is_marked marks i) here before mid now so.same (moves_at [] before.at mid.at here so.moves) one.took));
+        moves = moves_on (held_at entries catalog) (held_one entry here) (held_at (entries ++ entry ∷ []) catalog) [] [] before.at mid.at now.at so.moves step
+            (λ place. held_push entries entry catalog place few ∙ ap (λ n. held_at entries catalog place + held_one entry (entry_at catalog n).place place) (sym stands));
+        others = keeps_then catalog (IsMarked marks) before.at mid.at now.at so.others (took_keeps entry catalog marks i mid now one.took);
+      })
+
+  -- memory was refused at an entry
+  pub taken_short : (catalog : List Entry) (marks : List Bool) (before mid now : ShelfView) (entries : List (OpenEntry S)) (wanted : Bool) (here : List ℕ) (why : WantOfMemory)
+      → AreTaken view catalog marks before mid entries → TakesOne view wanted here mid now (Err why) → AreTaken view catalog marks before now entries
+  taken_short catalog marks before mid now entries wanted here why so one =
+      let step = moves_still mid.at now.at one.took in
+      record {
+        same = same_then before mid now so.same one.same;
+        became = all_on before mid now entries catalog marks one.same (λ place. moves_at [] mid.at now.at place step) so.became;
+        moves = moves_on (held_at entries catalog) none_held (held_at entries catalog) [] [] before.at mid.at now.at so.moves step (λ place. omega arith);
+        others = keeps_then catalog (IsMarked marks) before.at mid.at now.at so.others (λ place apart. one.took place);
+      }
+
+  -- ---- those that were taken were asked for their sizes
+
+  stated_then : (told stated : Option ℕ) (held : ℕ) → IfSome told (λ v. stated ≡ Some v) → IfSome stated (λ v. held ≡ v) → IfSome told (λ v. held ≡ v)
+  stated_then None stated held is at = tt
+  stated_then (Some v) stated held is at = subst (λ o. IfSome o (λ w. held ≡ w)) is at
+
+  pub asked_now : (source source_now : S) (r : Result ℕ Trouble) → (view source_now).list ≡ (view source).list → GaveNothing (view source).counts (view source_now).counts
+      → OnOk r ((view source_now).counts ≡ (view source).counts) → IfErr r (TroubleHasCause (view source).counts (view source_now).counts) → IfErr r IsNoMove
+      → IfOk r (λ size. IfSome (view source).list (λ rows. size ≡ length rows)) → OnOk r (IfSome (view source).states (λ v. (view source_now).at_hand ≡ v))
+      → (view source_now).calls ≡ with_call (Call.Size r) (view source).calls
+      → IsAsked view (Taken source None) (Taken source_now (Some r))
+  asked_now source source_now (Ok size) same given quiet cause unmoved sized at once = λ list version new. record {
+    asked = record { first = view source; fresh = new.fresh; unasked = new.unasked; once = once };
+    fresh = quiet ∙ new.fresh;
+    tells = told_as list (view source).list (view source_now).list size new.tells same sized;
+    stated = stated_then version (view source).states (view source_now).at_hand new.stated at;
+  }
+  asked_now source source_now (Err why) same given quiet cause unmoved sized at once = λ list version new. record {
+    asked = record { first = view source; fresh = new.fresh; unasked = new.unasked; once = once };
+    cause = subst (λ c. TroubleHasCause c (view source_now).counts why) new.fresh cause;
+    given = subst (λ c. GaveNothing c (view source_now).counts) new.fresh given;
+    unmoved = unmoved;
+  }
+
+  -- what was asked once was asked
+  pub calls_once : (before now : Option (List Call)) (r : Result ℕ Trouble) → IfOk r (λ size. now ≡ with_call (Call.Size (Ok size)) before)
+      → IfErr r (λ why. now ≡ with_call (Call.Size (Err why)) before) → now ≡ with_call (Call.Size r) before
+  calls_once before now (Ok size) ok err = ok
+  calls_once before now (Err why) ok err = err
+
+  asked_held : (x z : OpenEntry S) (here place : List ℕ) → IsAsked view x z → held_one z here place ≡ held_one x here place
+  asked_held Unwanted z here place e = ap (λ y. held_one y here place) e
+  asked_held NotTaken z here place e = ap (λ y. held_one y here place) e
+  asked_held (Taken source size) Unwanted here place e = absurd e
+  asked_held (Taken source size) NotTaken here place e = absurd e
+  asked_held (Taken source size) (Taken now answer) here place e = refl
+
+  asked_became : (mark : Bool) (before now : ShelfView) (place : List ℕ) (x z : OpenEntry S) → IsAsked view x z → Became view mark before now place x
+      → Became view mark before now place z
+  asked_became mark before now place Unwanted z e is = subst (Became view mark before now place) (sym e) is
+  asked_became mark before now place NotTaken z e is = subst (Became view mark before now place) (sym e) is
+  asked_became mark before now place (Taken source size) Unwanted e is = absurd e
+  asked_became mark before now place (Taken source size) NotTaken e is = absurd e
+  asked_became false before now place (Taken source size) (Taken later answer) e is = absurd is
+  asked_became true before now place (Taken source size) (Taken later answer) e is = (e (before.lists place) (before.versions place) is.0, is.1)
+
+  first_asked : (x z : OpenEntry S) (xs zs : List (OpenEntry S)) → AreAsked view (x ∷ xs) (z ∷ zs) → IsAsked view x z
+  first_asked x z xs zs asked = subst (IsAsked view x) (sym (same_Some z (asked 0).0 (asked 0).1)) (asked 0).2
+
+  pub long_asked : (xs zs : List (OpenEntry S)) → AreAsked view xs zs → length zs ≡ length xs
+  long_asked [] [] asked = refl
+  long_asked [] (z ∷ zs) asked = absurd (let e : Some z ≡ None = asked 0 in cc)
+  long_asked (x ∷ xs) [] asked = absurd (let e : None ≡ Some (asked 0).0 = (asked 0).1 in cc)
+  long_asked (x ∷ xs) (z ∷ zs) asked = ap suc (long_asked xs zs (λ i. asked (suc i)))
+
+  held_asked : (xs zs : List (OpenEntry S)) (catalog : List Entry) (place : List ℕ) → AreAsked view xs zs → held_at zs catalog place ≡ held_at xs catalog place
+  held_asked [] [] catalog place asked = refl
+  held_asked [] (z ∷ zs) catalog place asked = absurd (let e : Some z ≡ None = asked 0 in cc)
+  held_asked (x ∷ xs) [] catalog place asked = absurd (let e : None ≡ Some (asked 0).0 = (asked 0).1 in cc)
+  held_asked (x ∷ xs) (z ∷ zs) [] place asked = refl
+  held_asked (x ∷ xs) (z ∷ zs) (one ∷ catalog) place asked =
+      let first = asked_held x z one.place place (first_asked x z xs zs asked) in
+      let more = held_asked xs zs catalog place (λ i. asked (suc i)) in
+      omega (arith, first, more)
+
+  all_asked : (before now : ShelfView) (xs zs : List (OpenEntry S)) (catalog : List Entry) (marks : List Bool) → AreAsked view xs zs → AllBecame view before now xs catalog marks
+      → AllBecame view before now zs catalog marks
+  all_asked before now [] [] catalog marks asked are = tt
+  all_asked before now [] (z ∷ zs) catalog marks asked are = absurd (let e : Some z ≡ None = asked 0 in cc)
+  all_asked before now (x ∷ xs) [] catalog marks asked are = tt
+  all_asked before now (x ∷ xs) (z ∷ zs) [] marks asked are = absurd are
+  all_asked before now (x ∷ xs) (z ∷ zs) (one ∷ catalog) [] asked are = absurd are
+  all_asked before now (x ∷ xs) (z ∷ zs) (one ∷ catalog) (mark ∷ marks) asked are =
+      (asked_became mark before now one.place x z (first_asked x z xs zs asked) are.0, all_asked before now xs zs catalog marks (λ i. asked (suc i)) are.1)
+
+  lent_is : (xs zs : List (OpenEntry S)) (len : ℕ) → len ≡ length xs → AreAsked view xs zs → take len (zs ++ drop (length zs) xs) ≡ zs
+  lent_is xs zs len whole asked = ap (λ n. take n (zs ++ drop (length zs) xs)) (whole ∙ sym (long_asked xs zs asked)) ∙ take-append_seam zs (drop (length zs) xs)
+
+  pub taken_asked : (catalog : List Entry) (marks : List Bool) (before now : ShelfView) (xs zs : List (OpenEntry S)) (len : ℕ) → len ≡ length xs → AreAsked view xs zs
+      → AreTaken view catalog marks before now xs → AreTaken view catalog marks before now (take len (zs ++ drop (length zs) xs))
+  taken_asked catalog marks before now xs zs len whole asked so = subst (AreTaken view catalog marks before now) (sym (lent_is xs zs len whole asked)) (record {
+    same = so.same;
+    became = all_asked before now xs zs catalog marks asked so.became;
+    moves = subst (λ held. MovesBut held [] before.at now.at) (λ i place. sym (held_asked xs zs catalog place asked) i) so.moves;
+    others = so.others;
+  })
+
+  -- no more entries than the catalog has
+  pub few_became : (before now : ShelfView) (xs : List (OpenEntry S)) (catalog : List Entry) (marks : List Bool) → AllBecame view before now xs catalog marks
+      → length xs ≤ length catalog
+  few_became before now [] catalog marks are = omega arith
+  few_became before now (x ∷ xs) [] marks are = absurd are
+  few_became before now (x ∷ xs) (one ∷ catalog) [] are = absurd are
+  few_became before now (x ∷ xs) (one ∷ catalog) (mark ∷ marks) are = let few = few_became before now xs catalog marks are.1 in omega (arith, few)

@@ -1,16 +1,14 @@
 -- Nothing is read of the sources while they are opened.
-use Rattle.std.proofs.Common.{◌≡◌, ◌≢◌, Bool, true, false, ℕ, List, [], ◌∷◌, ◌++◌, All, Option, None, Some, refl, sym, ap, ◌∙◌, subst, arith}
-use Rattle.std.specs.Prelude.{IfSome}
+use Rattle.std.proofs.Common.{◌≡◌, ◌≢◌, Bool, true, false, ℕ, List, [], All, refl, sym, ap, ◌∙◌, subst, arith}
 use Rattle.std.specs.Str.{bytes_eq}
 use Rattle.std.proofs.lemmas.Bool.{false≢true}
-use Rattle.std.proofs.lemmas.Option.{same_Some}
-use Rattle.std.proofs.lemmas.List.Elements.{All-push, All-from_recursion}
+use Rattle.std.proofs.lemmas.List.Elements.{All-from_recursion}
 use Rattle.std.proofs.lemmas.Slice.Eq.{bytes_eq-Decides}
 use Rattle.source_api.specs.declared.counts.Counts.{Counts}
 use Rattle.source_api.specs.declared.ledger.PlaceCounts.{PlaceCounts}
 use Rattle.source_api.specs.Counting.{GaveNothing, no_counts, raised}
-use Rattle.source_api.specs.Places.{CountsTakes, SameElsewhere, put_back_at}
-use Rattle.catalog_open.specs.Openings.{Counted, GivesNothing, IsUnread, ReadsNothing}
+use Rattle.source_api.specs.Places.{SameElsewhere, put_back_at}
+use Rattle.catalog_open.specs.Openings.{Counted, GivesNothing, IsUnread}
 
 pub still : (at : PlaceCounts) → GivesNothing at at
 still at = record { rows = refl; grades = refl }
@@ -18,12 +16,9 @@ still at = record { rows = refl; grades = refl }
 pub gives_then : (before mid now : PlaceCounts) → GivesNothing before mid → GivesNothing mid now → GivesNothing before now
 gives_then before mid now first second = record { rows = second.rows ∙ first.rows; grades = second.grades ∙ first.grades }
 
--- a call that takes a source gives nothing
-pub took_nothing : (before now : PlaceCounts) → CountsTakes before now → GivesNothing before now
-took_nothing before now takes = record {
-  rows = ap (λ (c : PlaceCounts). raised c.sources.rows_given 0) takes.others;
-  grades = ap (λ (c : PlaceCounts). raised c.sources.grades_given 0) takes.others;
-}
+-- where no source was put back nothing was given
+pub gives_still : (before now : PlaceCounts) → now.sources ≡ before.sources → GivesNothing before now
+gives_still before now same = record { rows = ap (λ (c : Counts). raised c.rows_given 0) same; grades = ap (λ (c : Counts). raised c.grades_given 0) same }
 
 -- a source that has given nothing was put back
 pub put_unread : (before now : PlaceCounts) (knows : Bool) (first counts : Counts) → now ≡ put_back_at knows counts before → knows ≡ true
@@ -49,7 +44,7 @@ unread_source first counts fresh quiet =
     }
 
 -- what changes at one place alone
-back_here : (text : List ℕ) (before now : Counted) → SameElsewhere text before now → GivesNothing (before text) (now text) → (place : List ℕ)
+pub back_here : (text : List ℕ) (before now : Counted) → SameElsewhere text before now → GivesNothing (before text) (now text) → (place : List ℕ)
     → GivesNothing (before place) (now place)
 back_here text before now elsewhere here place = elim (bytes_eq text place) as (λ t. bytes_eq text place ≡ t → GivesNothing (before place) (now place)) [
   | true ↦ λ e. subst (λ p. GivesNothing (before p) (now p)) ((bytes_eq-Decides text place).0 e) here
@@ -58,25 +53,5 @@ back_here text before now elsewhere here place = elim (bytes_eq text place) as (
       subst (GivesNothing (before place)) (sym (elsewhere place apart)) (still (before place))
 ] refl
 
-pub reads_nothing : (before : Counted) (old new : List Counts) → new ≡ old → ReadsNothing before before old new
-reads_nothing before old new same = record { back = λ place. still (before place); open_ones = λ all. subst (All IsUnread) (sym same) all }
-
--- a source was tried to be opened
-pub reads_here : (text : List ℕ) (before now : Counted) (old new : List Counts) → SameElsewhere text before now → GivesNothing (before text) (now text)
-    → new ≡ old → ReadsNothing before now old new
-reads_here text before now old new elsewhere here same =
-    record { back = back_here text before now elsewhere here; open_ones = λ all. subst (All IsUnread) (sym same) all }
-
--- and is open
-pub reads_more : (text : List ℕ) (before now : Counted) (old new : List Counts) (one : Counts) → SameElsewhere text before now
-    → GivesNothing (before text) (now text) → IsUnread one → new ≡ old ++ one ∷ [] → ReadsNothing before now old new
-reads_more text before now old new one elsewhere here unread more =
-    record { back = back_here text before now elsewhere here; open_ones = λ all. subst (All IsUnread) (sym more) (All-push IsUnread old one all unread) }
-
 pub none_unread : All IsUnread []
 none_unread = All-from_recursion IsUnread [] tt
-
--- what is said of an option that is known
-pub if_some : {X : Type 0} (o : Option X) (P : X → Type 0) (x : X) → IfSome o P → o ≡ Some x → P x
-if_some None P x h e = absurd cc
-if_some (Some y) P x h e = subst P (same_Some y x e) h

@@ -6,7 +6,6 @@ use Rattle.ranked_list.specs.declared.row.Row.{Row}
 use Rattle.source_api.specs.declared.counts.Counts.{Counts}
 use Rattle.source_api.specs.declared.ledger.PlaceCounts.{PlaceCounts}
 use Rattle.source_api.specs.Counting.{added, raised}
-use Rattle.source_api.specs.Places.{with_source}
 use Rattle.catalog_text.specs.Catalog.{Listed as Entry}
 use Rattle.catalog_open.specs.declared.opened.Opening.{Opening}
 use Rattle.catalog_open.specs.declared.opened.Opening.TheVariants.{Closed, Open}
@@ -61,23 +60,12 @@ pub record PutsBack (used : List Used) (before now : Counted) : Type 0 where
   pub returned : (place : List ℕ) → (now place).returned ≡ counted_times (length (used_at place used)) (before place).returned
   pub sources : (place : List ℕ) → (now place).sources ≡ added_all (before place).sources (used_at place used)
 
--- at a place one source was put back, and nothing else was counted
-abbrev pub PutsOneBack : PlaceCounts → PlaceCounts → Type 0
-PutsOneBack before now = (counts : Counts) × (now ≡ with_source counts before)
-
 -- at a place sources were put back, and calls that take one may have failed
 pub record MovesAt (before now : PlaceCounts) : Type 0 where
   pub texts : now.text_faults ≡ before.text_faults
   pub takes : before.take_faults ≤ now.take_faults
   pub counts : List Counts
   pub sources : now.sources ≡ added_all before.sources counts
-
--- at a place one source at most was taken, and it was put back; calls that take one may have failed
-pub record TakesOneAtMost (before now : PlaceCounts) : Type 0 where
-  pub moves : MovesAt before now
-  pub taken : now.taken ≡ counted_times (length moves.counts) before.taken
-  pub returned : now.returned ≡ counted_times (length moves.counts) before.returned
-  pub once : length moves.counts ≤ 1
 
 -- a source has counted nothing: it gave neither a row nor a grade, and no call of it failed, was garbled or told of another version
 pub record IsUnread (counts : Counts) : Type 0 where
@@ -91,11 +79,6 @@ pub record IsUnread (counts : Counts) : Type 0 where
 pub record GivesNothing (before now : PlaceCounts) : Type 0 where
   pub rows : raised now.sources.rows_given 0 ≡ raised before.sources.rows_given 0
   pub grades : raised now.sources.grades_given 0 ≡ raised before.sources.grades_given 0
-
--- between two moments nothing was read of sources: those that were put back had given nothing, and the open ones have counted nothing if those before hadn't
-pub record ReadsNothing (before now : Counted) (earlier opened : List Counts) : Type 0 where
-  pub back : (place : List ℕ) → GivesNothing (before place) (now place)
-  pub open_ones : All IsUnread earlier → All IsUnread opened
 
 -- between two moments nothing was counted but at the places of these entries of the catalog
 abbrev pub KeepsOthers : List Entry → (ℕ → Type 0) → Counted → Counted → Type 0
@@ -119,6 +102,9 @@ pub record Sources : Type 0 where
   pub versions : List ℕ
   pub places : List ℕ
   pub counts : List ℕ
+
+abbrev pub no_sources : Sources
+no_sources = record { told = []; versions = []; places = []; counts = [] }
 
 -- how many objects a source has in a run: as many as it states, or none where it states more than a list may have
 abbrev pub run_count : ℕ → ℕ

@@ -1,47 +1,88 @@
 -- Sources that were taken of a shelf, before they are open.
-use Rattle.std.specs.Prelude.{◌≡◌, ◌<◌, ◌++◌, ℕ, zero, suc, Bool, true, false, List, [], ◌∷◌, Option, None, Some, Result, Ok, Err, IfSome, slice_get, if◌then◌else◌}
+use Rattle.std.specs.Prelude.{◌≡◌, ◌≤◌, ◌+◌, ℕ, Bool, true, false, List, [], ◌∷◌, All, Option, None, Some, Result, Ok, Err, IfSome, length, map, slice_get}
+use Rattle.limits.specs.declared.Memory.{Memory as WantOfMemory}
 use Rattle.tk_io.specs.Faults.{Rose}
 use Rattle.ranked_list.specs.declared.row.Row.{Row}
 use Rattle.source_api.specs.declared.counts.Counts.{Counts}
 use Rattle.source_api.specs.declared.ledger.PlaceCounts.{PlaceCounts}
 use Rattle.source_api.specs.declared.source.Trouble.{Trouble}
-use Rattle.source_api.specs.declared.source.FailKind.TheVariants.{Failed, Garbled}
+use Rattle.source_api.specs.declared.source.FailKind.TheVariants.{Memory}
 use Rattle.source_api.specs.declared.source.Trouble.TheVariants.{Fail}
+use Rattle.source_api.specs.Calls.{Call, with_call}
 use Rattle.source_api.specs.Counting.{GaveNothing, IsNoMove, TroubleHasCause, no_counts}
-use Rattle.source_api.specs.Places.{CountsTakes, SameAtEach, SameElsewhere, counts_taken}
+use Rattle.source_api.specs.Places.{CountsTakes, SameAtEach, SameElsewhere, counts_taken, put_back_at}
 use Rattle.catalog_text.specs.Catalog.{Listed as Entry}
-use Rattle.catalog_open.specs.declared.taking.Held.{Held}
-use Rattle.catalog_open.specs.declared.opened.Opening.{Opening}
-use Rattle.catalog_open.specs.declared.opened.Opening.TheVariants.{Closed}
-use Rattle.catalog_open.specs.Entries.{entry_at, is_marked}
-use Rattle.catalog_open.specs.Openings.{Counted, IsToldAs}
+use Rattle.fetcher.specs.declared.slot.Slot.{Slot}
+use Rattle.catalog_open.specs.declared.taking.OpenEntry.{OpenEntry}
+use Rattle.catalog_open.specs.declared.taking.OpenEntry.TheVariants.{Unwanted, NotTaken, Taken}
+use Rattle.catalog_open.specs.declared.opened.OpenSources.{OpenSources}
+use Rattle.catalog_open.specs.Entries.{IsMarked, entry_at}
+use Rattle.catalog_open.specs.Openings.{Counted, IsKnownAt, IsToldAs, IsUnread, KeepsOthers, MovesBut, TroubleAt, one_at}
+use Rattle.catalog_open.specs.Slots.{ClosesNext, IsIdle, OpensNext, of_slot}
 
--- how many of the first places are marked
-abbrev pub marked_before : List Bool → ℕ → ℕ
-marked_before [] n = 0
-marked_before (mark ∷ marks) zero = 0
-marked_before (mark ∷ marks) (suc n) = if mark then suc (marked_before marks n) else marked_before marks n
+-- what a source is seen as: the list and the version that it tells, the version at hand, what it has counted, and the calls that were made of it
+pub record SourceView : Type 0 where
+  pub list : Option (List Row)
+  pub states : Option ℕ
+  pub at_hand : ℕ
+  pub counts : Counts
+  pub calls : Option (List Call)
 
--- whether a source that answered so when asked for its size failed, or answered by garbled data
-abbrev pub is_trouble : Option (Result ℕ Trouble) → Bool
-is_trouble (Some (Err (Fail Failed))) = true
-is_trouble (Some (Err (Fail Garbled))) = true
-is_trouble _ = false
+abbrev pub seen : {S : Type 0} → (S → Option (List Row)) → (S → Option ℕ) → (S → ℕ) → (S → Counts) → (S → Option (List Call)) → S → SourceView
+seen list states at_hand counts calls source =
+    record { list = list source; states = states source; at_hand = at_hand source; counts = counts source; calls = calls source }
 
--- what calls that take sources counted by one moment, and what sources that were put back counted by another
-abbrev pub both : PlaceCounts → PlaceCounts → PlaceCounts
-both taken back = record taken { returned = back.returned; sources = back.sources }
+-- what a shelf is seen as: what it tells of its places, what it has counted there, and the places at which sources that are put back count
+pub record ShelfView : Type 0 where
+  pub texts : List ℕ → Option (List ℕ)
+  pub lists : List ℕ → Option (List Row)
+  pub versions : List ℕ → Option ℕ
+  pub at : Counted
+  pub knows : List ℕ → Bool
 
-abbrev pub joined : Counted → Counted → Counted
-joined taken back place = both (taken place) (back place)
+abbrev pub shelf_seen : {H : Type 0} → (H → List ℕ → Option (List ℕ)) → (H → List ℕ → Option (List Row)) → (H → List ℕ → Option ℕ) → (H → Counted)
+    → (H → List ℕ → Bool) → H → ShelfView
+shelf_seen texts lists versions at knows shelf = record { texts = texts shelf; lists = lists shelf; versions = versions shelf; at = at shelf; knows = knows shelf }
 
--- between two moments sources were put back, and nothing else was counted
-abbrev pub PutsAlone : Counted → Counted → Type 0
-PutsAlone before now = (place : List ℕ) → now place ≡ both (before place) (now place)
+-- what no call on a shelf changes
+pub record SameShelf (before now : ShelfView) : Type 0 where
+  pub texts : SameAtEach before.texts now.texts
+  pub lists : SameAtEach before.lists now.lists
+  pub versions : SameAtEach before.versions now.versions
+  pub known : (place : List ℕ) → before.knows place ≡ true → now.knows place ≡ true
 
--- a source that isn't open is put behind the openings, where the entries before it are settled
-abbrev pub closed_if : Bool → List Opening → List Opening
-closed_if closes openings = if closes then openings ++ Closed ∷ [] else openings
+-- a new source of a place of which a list and a version are told
+pub record IsNew (list : Option (List Row)) (version : Option ℕ) (source : SourceView) : Type 0 where
+  pub fresh : source.counts ≡ no_counts
+  pub unasked : source.at_hand ≡ 0
+  pub tells : IfSome list (λ rows. source.list ≡ Some rows)
+  pub stated : IfSome version (λ told. source.states ≡ Some told)
+
+-- a source that was new was asked for its size, exactly once, and answered so
+pub record IsAskedOnce (answer : Result ℕ Trouble) (source : SourceView) : Type 0 where
+  pub first : SourceView
+  pub fresh : first.counts ≡ no_counts
+  pub unasked : first.at_hand ≡ 0
+  pub once : source.calls ≡ with_call (Call.Size answer) first.calls
+
+-- it answered with this size
+pub record IsSized (list : Option (List Row)) (version : Option ℕ) (source : SourceView) (size : ℕ) : Type 0 where
+  pub asked : IsAskedOnce (Ok size) source
+  pub fresh : source.counts ≡ no_counts
+  pub tells : IsToldAs list source.list size
+  pub stated : IfSome version (λ told. source.at_hand ≡ told)
+
+-- it had trouble
+pub record IsTroubled (source : SourceView) (why : Trouble) : Type 0 where
+  pub asked : IsAskedOnce (Err why) source
+  pub cause : TroubleHasCause no_counts source.counts why
+  pub given : GaveNothing no_counts source.counts
+  pub unmoved : IsNoMove why
+
+abbrev pub Answers : Option (List Row) → Option ℕ → SourceView → Option (Result ℕ Trouble) → Type 0
+Answers list version source None = IsNew list version source
+Answers list version source (Some (Ok size)) = IsSized list version source size
+Answers list version source (Some (Err why)) = IsTroubled source why
 
 -- a call that takes a source failed
 pub record TakeFails (before now : PlaceCounts) : Type 0 where
@@ -49,95 +90,108 @@ pub record TakeFails (before now : PlaceCounts) : Type 0 where
   pub untaken : now.taken ≡ before.taken
   pub rose : Rose before.take_faults now.take_faults
 
-module _ {S : Type 0} (list : S → Option (List Row)) (states : S → Option ℕ) (at_hand : S → ℕ) (counts : S → Counts) where
-  -- a new source of a place of which a list and a version are told
-  pub record IsNew (told : Option (List Row)) (version : Option ℕ) (source : S) : Type 0 where
-    pub fresh : counts source ≡ no_counts
-    pub tells : IfSome told (λ rows. list source ≡ Some rows)
-    pub stated : IfSome version (λ v. states source ≡ Some v)
+-- what becomes of an entry whose source couldn't be taken for this cause
+abbrev pub not_taken : {S : Type 0} → Trouble → Result (OpenEntry S) WantOfMemory
+not_taken (Fail Memory) = Err (record {})
+not_taken _ = Ok NotTaken
 
-  -- it answered with this size
-  pub record IsSized (told : Option (List Row)) (version : Option ℕ) (source : S) (size : ℕ) : Type 0 where
-    pub fresh : counts source ≡ no_counts
-    pub tells : IsToldAs told (list source) size
-    pub stated : IfSome version (λ v. at_hand source ≡ v)
+-- it is known what becomes of an entry: a source that was taken was asked for its size, and had the memory to answer
+abbrev pub is_answered : {S : Type 0} → OpenEntry S → Bool
+is_answered (Taken source None) = false
+is_answered (Taken source (Some (Err (Fail Memory)))) = false
+is_answered _ = true
 
-  -- it answered so
-  pub record IsTroubled (source : S) (trouble : Trouble) : Type 0 where
-    pub cause : TroubleHasCause no_counts (counts source) trouble
-    pub given : GaveNothing no_counts (counts source)
-    pub unmoved : IsNoMove trouble
+-- the size under which a source is opened that answered so
+abbrev pub size_to_open : Bool → Option (Result ℕ Trouble) → Option ℕ
+size_to_open false (Some (Ok size)) = Some size
+size_to_open _ _ = None
 
-  abbrev pub Answers : Option (List Row) → Option ℕ → S → Option (Result ℕ Trouble) → Type 0
-  Answers told version source None = IsNew told version source
-  Answers told version source (Some (Ok size)) = IsSized told version source size
-  Answers told version source (Some (Err trouble)) = IsTroubled source trouble
+-- how many sources are held of a place by an entry, and by some entries
+abbrev pub held_one : {S : Type 0} → OpenEntry S → List ℕ → List ℕ → ℕ
+held_one (Taken source size) here place = one_at here place
+held_one _ here place = 0
 
-  -- what is known of a source that was taken, if one was
-  abbrev pub Stands : Option (List Row) → Option ℕ → Option (Held S) → Type 0
-  Stands told version None = Unit {0}
-  Stands told version (Some held) = Answers told version held.source held.size
+abbrev pub held_at : {S : Type 0} → List (OpenEntry S) → List Entry → List ℕ → ℕ
+held_at [] catalog place = 0
+held_at (entry ∷ entries) [] place = 0
+held_at (entry ∷ entries) (one ∷ catalog) place = held_one entry one.place place + held_at entries catalog place
 
-  -- a call took a source, or failed
-  abbrev pub Took : Option (Held S) → PlaceCounts → PlaceCounts → Type 0
-  Took None before now = TakeFails before now
-  Took (Some held) before now = now ≡ counts_taken before
+module _ {S : Type 0} (view : S → SourceView) where
+  -- a source was asked for its size, unless it was asked
+  abbrev pub IsAsked : OpenEntry S → OpenEntry S → Type 0
+  IsAsked (Taken before size) (Taken now answer) =
+      (list : Option (List Row)) (version : Option ℕ) → Answers list version (view before) size → Answers list version (view now) answer
+  IsAsked Unwanted now = now ≡ Unwanted
+  IsAsked NotTaken now = now ≡ NotTaken
+  IsAsked (Taken before size) now = ⊥
 
-  -- a call for the source of a place ended so
-  pub record IsTaken (lists : List ℕ → Option (List Row)) (versions : List ℕ → Option ℕ) (text : List ℕ) (found : Option (Held S)) (before now : Counted) : Type 0 where
-    pub elsewhere : SameElsewhere text before now
-    pub here : Took found (before text) (now text)
-    pub stands : Stands (lists text) (versions text) found
+  abbrev pub IsAskedAt : Option (OpenEntry S) → Option (OpenEntry S) → Type 0
+  IsAskedAt None now = now ≡ None
+  IsAskedAt (Some before) now = (after : OpenEntry S) × (now ≡ Some after) × IsAsked before after
 
-  -- the source of an entry was taken so where it is wanted; of none it isn't known, as memory was refused
-  abbrev pub Visits : (lists : List ℕ → Option (List Row)) (versions : List ℕ → Option ℕ) (text : List ℕ) → Bool → Option (Option (Held S)) → Counted → Counted → Type 0
-  Visits lists versions text false taking before now = SameAtEach before now
-  Visits lists versions text true None before now = SameAtEach before now
-  Visits lists versions text true (Some found) before now = IsTaken lists versions text found before now
-
-  -- the sources of the first entries were taken so, one after another
-  pub record AreTaken (lists : List ℕ → Option (List Row)) (versions : List ℕ → Option ℕ) (catalog : List Entry) (marks : List Bool) (takings : List (Option (Held S)))
-      (many : ℕ) (before now : Counted) : Type 0 where
-    pub at : ℕ → Counted
-    pub begins : at 0 ≡ before
-    pub ends : at many ≡ now
-    pub each : (place : ℕ) → place < many
-        → Visits lists versions (entry_at catalog place).place (is_marked marks place) (slice_get takings (marked_before marks place)) (at place) (at (suc place))
-
-  -- a source that was taken was asked for its size
-  abbrev pub IsAsked : Option (Held S) → Option (Held S) → Type 0
-  IsAsked None None = Unit {0}
-  IsAsked (Some before) (Some now) =
-      (told : Option (List Row)) (version : Option ℕ) → Answers told version before.source before.size → Answers told version now.source now.size
-  IsAsked _ _ = ⊥
-
-  abbrev pub IsAskedAt : Option (Option (Held S)) → Option (Option (Held S)) → Type 0
-  IsAskedAt None None = Unit {0}
-  IsAskedAt (Some before) (Some now) = IsAsked before now
-  IsAskedAt _ _ = ⊥
-
-  abbrev pub AreAsked : List (Option (Held S)) → List (Option (Held S)) → Type 0
+  abbrev pub AreAsked : List (OpenEntry S) → List (OpenEntry S) → Type 0
   AreAsked before now = (i : ℕ) → IsAskedAt (slice_get before i) (slice_get now i)
 
--- a source that is put back at its place counts there
-abbrev pub KnowsHeld : {S : Type 0} → (List ℕ → Bool) → List ℕ → Option (Option (Held S)) → Type 0
-KnowsHeld knows text (Some (Some held)) = knows text ≡ true
-KnowsHeld knows text _ = Unit {0}
+  -- a call for the source of a place, where it is wanted, ended so: one that isn't wanted isn't asked for, and want of memory counts nothing
+  abbrev pub Took : Result (OpenEntry S) WantOfMemory → Bool → List ℕ → ShelfView → ShelfView → Type 0
+  Took (Err _) wanted place before now = SameAtEach before.at now.at
+  Took (Ok Unwanted) false place before now = SameAtEach before.at now.at
+  Took (Ok NotTaken) true place before now = SameElsewhere place before.at now.at × TakeFails (before.at place) (now.at place)
+  Took (Ok (Taken source None)) true place before now =
+      SameElsewhere place before.at now.at × (now.at place ≡ counts_taken (before.at place)) × IsNew (before.lists place) (before.versions place) (view source)
+      × (now.knows place ≡ true)
+  Took _ _ _ _ _ = ⊥
 
-abbrev pub AreKnown : {S : Type 0} → (List ℕ → Bool) → List Entry → List Bool → List (Option (Held S)) → ℕ → Type 0
-AreKnown knows catalog marks takings many = (place : ℕ) → place < many → is_marked marks place ≡ true
-    → KnowsHeld knows (entry_at catalog place).place (slice_get takings (marked_before marks place))
+  pub record TakesOne (wanted : Bool) (place : List ℕ) (before now : ShelfView) (result : Result (OpenEntry S) WantOfMemory) : Type 0 where
+    pub same : SameShelf before now
+    pub took : Took result wanted place before now
 
-module _ {S : Type 0} (list : S → Option (List Row)) (states : S → Option ℕ) (at_hand : S → ℕ) (counts : S → Counts) where
-  -- the source of the next entry was taken where it is wanted, and what became of it put behind the others
-  pub record TakesOne (lists : List ℕ → Option (List Row)) (versions : List ℕ → Option ℕ) (knows : List ℕ → Bool) (text : List ℕ)
-      (takings takings_now : List (Option (Held S))) (before now : Counted) : Type 0 where
-    pub found : Option (Held S)
-    pub put : takings_now ≡ takings ++ found ∷ []
-    pub taken : IsTaken list states at_hand counts lists versions text found before now
-    pub known : KnowsHeld knows text (Some found)
+  -- this became of the source of an entry with a mark, between two moments of the shelf
+  abbrev pub Became : Bool → (before now : ShelfView) (place : List ℕ) → OpenEntry S → Type 0
+  Became false before now place Unwanted = Unit {0}
+  Became true before now place NotTaken = TroubleAt (before.at place) (now.at place)
+  Became true before now place (Taken source size) = Answers (before.lists place) (before.versions place) (view source) size × (now.knows place ≡ true)
+  Became _ _ _ _ _ = ⊥
 
-  abbrev pub TakesNext : (lists : List ℕ → Option (List Row)) (versions : List ℕ → Option ℕ) (knows : List ℕ → Bool) (text : List ℕ) → Bool
-      → (takings takings_now : List (Option (Held S))) → Counted → Counted → Type 0
-  TakesNext lists versions knows text false takings takings_now before now = SameAtEach before now × (takings_now ≡ takings)
-  TakesNext lists versions knows text true takings takings_now before now = TakesOne lists versions knows text takings takings_now before now
+  abbrev pub AllBecame : (before now : ShelfView) → List (OpenEntry S) → List Entry → List Bool → Type 0
+  AllBecame before now [] catalog marks = Unit {0}
+  AllBecame before now (entry ∷ entries) (one ∷ catalog) (mark ∷ marks) = Became mark before now one.place entry × AllBecame before now entries catalog marks
+  AllBecame before now (entry ∷ entries) _ _ = ⊥
+
+  -- the sources of the first entries of a catalog were taken, where they are marked
+  pub record AreTaken (catalog : List Entry) (marks : List Bool) (before now : ShelfView) (entries : List (OpenEntry S)) : Type 0 where
+    pub same : SameShelf before now
+    pub became : AllBecame before now entries catalog marks
+    pub moves : MovesBut (held_at entries catalog) [] before.at now.at
+    pub others : KeepsOthers catalog (IsMarked marks) before.at now.at
+
+  -- a source was put back at its place, and its entry isn't open
+  pub record GivesBack (source : S) (place : List ℕ) (before now : ShelfView) (opened opened_now : OpenSources S) : Type 0 where
+    pub elsewhere : SameElsewhere place before.at now.at
+    pub back : now.at place ≡ put_back_at (before.knows place) (view source).counts (before.at place)
+    pub closes : ClosesNext opened opened_now
+
+  -- the next entry was settled: its source is open, or was put back, or there is none
+  abbrev pub SettlesTaken : S → Option ℕ → List ℕ → (before now : ShelfView) (opened opened_now : OpenSources S) → Type 0
+  SettlesTaken source (Some size) place before now opened opened_now =
+      SameAtEach before.at now.at × OpensNext (λ s. (view s).at_hand) source size opened opened_now
+  SettlesTaken source None place before now opened opened_now = GivesBack source place before now opened opened_now
+
+  abbrev pub Settles : Bool → OpenEntry S → List Entry → (before now : ShelfView) (opened opened_now : OpenSources S) → Type 0
+  Settles short (Taken source size) catalog before now opened opened_now =
+      SettlesTaken source (size_to_open short size) (entry_at catalog (length opened.openings.items)).place before now opened opened_now
+  Settles short Unwanted catalog before now opened opened_now = SameAtEach before.at now.at × ClosesNext opened opened_now
+  Settles short NotTaken catalog before now opened opened_now = SameAtEach before.at now.at × ClosesNext opened opened_now
+
+  -- the source of a slot was asked for its size once, and told one
+  abbrev pub WasAsked : Slot S → Type 0
+  WasAsked slot = (size : ℕ) × IsAskedOnce (Ok size) (view slot.source)
+
+  -- what became of each entry is known, and each open source counts at its place, was asked for its size once and for nothing else, and has no feeder
+  pub record AreReady (catalog : List Entry) (knows : List ℕ → Bool) (opened : OpenSources S) : Type 0 where
+    pub all : length opened.openings.items ≡ length catalog
+    pub few : length opened.slots.items ≤ length catalog
+    pub known : All (IsKnownAt catalog knows) opened.places.items
+    pub idle : All IsIdle opened.slots.items
+    pub unread : All IsUnread (map (of_slot (λ source. (view source).counts)) opened.slots.items)
+    pub asked : All WasAsked opened.slots.items

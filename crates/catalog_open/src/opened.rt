@@ -1,5 +1,13 @@
 //! What became of the sources of a catalog.
 
+ghost use Rattle.std.specs.Prelude.{◌≡◌, IfOk};
+ghost use Rattle.catalog_open.specs.Openings.{run_count};
+ghost use Rattle.catalog_open.specs.Slots.{HasRoom, IsBare};
+
+use super::Memory;
+use fetcher::Slot;
+use limits::MAX_OBJECTS;
+use source_api::Source;
 use std::alloc::Global;
 
 /// What became of a source of the catalog.
@@ -13,6 +21,19 @@ pub enum Opening {
         source: u32,
         version: u64,
     },
+}
+
+/// What became of the sources of a catalog, in its order, and the open ones by their numbers.
+#[derive(Drop)]
+pub(crate) struct OpenSources<S: Source> {
+    /// What became of the source of each entry.
+    pub openings: Vec<Opening>,
+    /// Where each open source stands in the catalog.
+    pub places: Vec<u32>,
+    /// How many objects it has in a run, 0 where it states more than a list may have.
+    pub counts: Vec<u32>,
+    /// The source itself, without a feeder.
+    pub slots: Vec<Slot<S>>,
 }
 
 /// What became of the sources of a catalog, in its order, and of each open source, in the order of their numbers, where it stands
@@ -38,5 +59,35 @@ impl Opened {
             places: Vec::new(alloc),
             counts: Vec::new(alloc),
         }
+    }
+}
+
+/// How many objects a source of this size has in a run.
+pub(crate) fn run_count(size: u64) -> u32
+    ensures { result ≡ run_count size }
+{
+    if size <= u64::from(MAX_OBJECTS) {
+        size as u32
+    } else {
+        0
+    }
+}
+
+impl<S: Source> OpenSources<S> {
+    /// Nothing is open, and there is room for the sources of so many entries.
+    pub(crate) fn with_room(alloc: Global, entries: usize) -> Result<OpenSources<S>, Memory>
+        ensures room { IfOk result (HasRoom entries) }
+        ensures bare { IfOk result IsBare }
+    {
+        let openings = Vec::with_capacity(alloc, entries)?;
+        let places = Vec::with_capacity(alloc, entries)?;
+        let counts = Vec::with_capacity(alloc, entries)?;
+        let slots = Vec::with_capacity(alloc, entries)?;
+        Ok(OpenSources {
+            openings,
+            places,
+            counts,
+            slots,
+        })
     }
 }

@@ -1,10 +1,9 @@
 //! Taking the sources that are wanted, and asking them for their sizes side by side.
 
-ghost use Rattle.std.specs.Prelude.{◌≡◌, ◌<◌, true, Some, [], ℕ, List, OnErr, OnOk, IfOk, length};
-ghost use Rattle.source_api.specs.Places.{CountsTakes, SameAtEach, SameElsewhere};
-ghost use Rattle.catalog_open.specs.Entries.{entry_at};
+ghost use Rattle.std.specs.Prelude.{◌≡◌, ◌≤◌, true, [], OnOk, length, vec_capacity};
+ghost use Rattle.std.specs.List.{list_all};
 ghost use Rattle.catalog_open.specs.Openings.{AsksEachAtMostOnce, AsksEachOnce};
-ghost use Rattle.catalog_open.specs.Takings.{AreAsked, AreKnown, AreTaken, IsAsked, IsTaken, KnowsHeld, TakesNext};
+ghost use Rattle.catalog_open.specs.Takings.{AreAsked, AreTaken, IsAsked, TakesOne, is_answered, not_taken, seen, shelf_seen};
 
 use super::Memory;
 use super::entries::place_of_entry;
@@ -19,124 +18,151 @@ use std::thread::Threads;
 /// reading some hundred rows.
 const MOST_AT_ONCE: usize = MAX_LISTS;
 
-/// A source that was taken, and what it answered when it was asked for its size, once it was.
+/// The source of an entry of the catalog, before it is open.
 #[derive(Drop)]
-pub(crate) struct Held<S: Drop> {
-    pub(crate) source: S,
-    pub(crate) size: Option<Result<u64, Trouble>>,
+pub(crate) enum OpenEntry<S: Drop> {
+    /// No line wants it.
+    Unwanted,
+    /// It couldn't be taken.
+    NotTaken,
+    /// It was taken, and answered so when it was asked for its size, once it was.
+    Taken {
+        source: S,
+        size: Option<Result<u64, Trouble>>,
+    },
 }
 
-/// Takes the source of a place once. None is a source that couldn't be taken.
-fn take_source<H: Shelf>(
+/// What becomes of an entry whose source couldn't be taken for this cause.
+fn not_taken<S: Drop>(why: Trouble) -> Result<OpenEntry<S>, Memory>
+    ensures { result ≡ not_taken why }
+{
+    match why {
+        Trouble::Fail(FailKind::Memory) => Err(Memory),
+        _ => Ok(OpenEntry::NotTaken),
+    }
+}
+
+/// Takes the source of a place once, if it is wanted.
+fn take_wanted<H: Shelf>(
     alloc: Global,
     shelf: &mut H,
     place: &str,
-) -> Result<Option<Held<H::Item>>, Memory>
-    ensures texts { SameAtEach (H.texts shelf.old) (H.texts shelf.new) }
-    ensures lists { SameAtEach (H.lists shelf.old) (H.lists shelf.new) }
-    ensures versions { SameAtEach (H.versions shelf.old) (H.versions shelf.new) }
-    ensures known { (other : List ℕ) → H.knows shelf.old other ≡ true → H.knows shelf.new other ≡ true }
-    ensures counts { CountsTakes (H.at shelf.old place.now) (H.at shelf.new place.now) }
-    ensures elsewhere { SameElsewhere place.now (H.at shelf.old) (H.at shelf.new) }
-    ensures taken { IfOk result (λ found. IsTaken H.Item.list H.Item.states H.Item.at_hand H.Item.counts (H.lists shelf.old) (H.versions shelf.old) place.now found (H.at shelf.old) (H.at shelf.new)) }
-    ensures knows { IfOk result (λ found. KnowsHeld (H.knows shelf.new) place.now (Some found)) }
-    ensures short { OnErr result (H.at shelf.new place.now ≡ H.at shelf.old place.now) }
-{
-    match shelf.take(alloc, place) {
-        Ok(source) => Ok(Some(Held { source, size: None })),
-        Err(Trouble::Fail(FailKind::Failed)) => Ok(None),
-        Err(Trouble::Fail(FailKind::Garbled)) => Ok(None),
-        Err(Trouble::Fail(FailKind::Memory)) => Err(Memory),
-        Err(Trouble::Moved { .. }) => unreachable!(),
-    }
-}
-
-/// Takes the source of the next entry of the catalog where it is wanted.
-fn take_next<H: Shelf>(
-    alloc: Global,
-    shelf: &mut H,
-    catalog: &Catalog,
-    place: u32,
     wanted: bool,
-    takings: &mut Vec<Option<Held<H::Item>>>,
-) -> Result<(), Memory>
-    requires place { place < length catalog.now }
-    ensures texts { SameAtEach (H.texts shelf.old) (H.texts shelf.new) }
-    ensures lists { SameAtEach (H.lists shelf.old) (H.lists shelf.new) }
-    ensures versions { SameAtEach (H.versions shelf.old) (H.versions shelf.new) }
-    ensures known { (other : List ℕ) → H.knows shelf.old other ≡ true → H.knows shelf.new other ≡ true }
-    ensures counts { (other : List ℕ) → CountsTakes (H.at shelf.old other) (H.at shelf.new other) }
-    ensures next { OnOk result (TakesNext H.Item.list H.Item.states H.Item.at_hand H.Item.counts (H.lists shelf.old) (H.versions shelf.old) (H.knows shelf.new)
-        (entry_at catalog.now place).place wanted takings.old.items takings.new.items (H.at shelf.old) (H.at shelf.new)) }
-    ensures wanted { OnErr result (wanted ≡ true) }
-    ensures kept { OnErr result (takings.new.items ≡ takings.old.items) }
-    ensures short { OnErr result (SameAtEach (H.at shelf.old) (H.at shelf.new)) }
+) -> Result<OpenEntry<H::Item>, Memory>
+    ensures { TakesOne (seen H.Item.list H.Item.states H.Item.at_hand H.Item.counts H.Item.calls) wanted place.now
+        (shelf_seen H.texts H.lists H.versions H.at H.knows shelf.old) (shelf_seen H.texts H.lists H.versions H.at H.knows shelf.new) result }
 {
     if !wanted {
-        return Ok(());
+        return Ok(OpenEntry::Unwanted);
     }
-    let Ok(()) = takings.reserve(1) else {
-        return Err(Memory);
-    };
-    let Ok(found) = take_source(alloc, shelf, place_of_entry(catalog, place)) else {
-        return Err(Memory);
-    };
-    takings.push_reserved(found);
-    Ok(())
+    match shelf.take(alloc, place) {
+        Ok(source) => Ok(OpenEntry::Taken { source, size: None }),
+        Err(why) => not_taken(why),
+    }
 }
 
 /// Takes the sources of a catalog that are marked, in its order, as far as there is memory.
-pub(crate) fn take_wanted<H: Shelf>(
+fn take_each<H: Shelf>(
     alloc: Global,
     shelf: &mut H,
     catalog: &Catalog,
     marks: &[bool],
-    takings: &mut Vec<Option<Held<H::Item>>>,
+    entries: &mut Vec<OpenEntry<H::Item>>,
 ) -> Result<(), Memory>
     requires marks { length marks.now ≡ length catalog.now }
-    requires none { takings.old.items ≡ [] }
-    ensures texts { SameAtEach (H.texts shelf.old) (H.texts shelf.new) }
-    ensures lists { SameAtEach (H.lists shelf.old) (H.lists shelf.new) }
-    ensures versions { SameAtEach (H.versions shelf.old) (H.versions shelf.new) }
-    ensures counts { (other : List ℕ) → CountsTakes (H.at shelf.old other) (H.at shelf.new other) }
-    ensures known { AreKnown (H.knows shelf.new) catalog.now marks.now takings.new.items (length catalog.now) }
+    requires none { entries.old.items ≡ [] }
+    requires room { length catalog.now ≤ vec_capacity entries.old }
+    ensures taken { AreTaken (seen H.Item.list H.Item.states H.Item.at_hand H.Item.counts H.Item.calls) catalog.now marks.now
+        (shelf_seen H.texts H.lists H.versions H.at H.knows shelf.old) (shelf_seen H.texts H.lists H.versions H.at H.knows shelf.new) entries.new.items }
+    ensures all { OnOk result (length entries.new.items ≡ length catalog.now) }
     ensures once { OnOk result (AsksEachOnce catalog.now marks.now (H.at shelf.old) (H.at shelf.new)) }
     ensures few { AsksEachAtMostOnce catalog.now marks.now (H.at shelf.old) (H.at shelf.new) }
-    ensures taken { AreTaken H.Item.list H.Item.states H.Item.at_hand H.Item.counts (H.lists shelf.old) (H.versions shelf.old) catalog.now marks.now takings.new.items
-        (length catalog.now) (H.at shelf.old) (H.at shelf.new) }
 {
     for place in 0..catalog.len() {
-        take_next(alloc, shelf, catalog, place, marks[place as usize], takings)?;
+        let wanted = marks[place as usize];
+        let entry = match take_wanted(alloc, shelf, place_of_entry(catalog, place), wanted) {
+            Ok(entry) => entry,
+            Err(_) => return Err(Memory),
+        };
+        entries.push_reserved(entry);
     }
     Ok(())
 }
 
 /// Asks a source that was taken for its size, unless it was asked.
-fn ask<S: Source>(alloc: Global, taking: &mut Option<Held<S>>)
-    ensures { IsAsked S.list S.states S.at_hand S.counts taking.old taking.new }
+fn ask<S: Source>(alloc: Global, entry: &mut OpenEntry<S>)
+    ensures { IsAsked (seen S.list S.states S.at_hand S.counts S.calls) entry.old entry.new }
 {
-    if let Some(held) = taking {
-        if held.size.is_none() {
-            held.size = Some(held.source.size(alloc));
+    if let OpenEntry::Taken { source, size } = entry {
+        if size.is_none() {
+            *size = Some(source.size(alloc));
         }
     }
 }
 
 /// Asks each source that was taken for its size once, side by side, in at most `MOST_AT_ONCE` threads.
-pub(crate) fn ask_all<W: Threads + Sync, S: Source>(
-    rt: &W,
-    alloc: Global,
-    takings: &mut [Option<Held<S>>],
-)
-    ensures { AreAsked S.list S.states S.at_hand S.counts takings.old takings.new }
+fn ask_all<W: Threads + Sync, S: Source>(rt: &W, alloc: Global, entries: &mut [OpenEntry<S>])
+    ensures { AreAsked (seen S.list S.states S.at_hand S.counts S.calls) entries.old entries.new }
 {
-    let threads = takings.len().clamp(1, MOST_AT_ONCE);
+    let threads = entries.len().clamp(1, MOST_AT_ONCE);
     thread::for_each_mut(
         rt,
-        takings,
+        entries,
         threads,
-        &|_, taking: &mut Option<Held<S>>|
-            ensures { IsAsked S.list S.states S.at_hand S.counts taking.entry.now taking.exit.now }
-        { ask(alloc, taking) },
+        &|_, entry: &mut OpenEntry<S>|
+            ensures { IsAsked (seen S.list S.states S.at_hand S.counts S.calls) entry.entry.now entry.exit.now }
+        { ask(alloc, entry) },
     );
+}
+
+/// Whether it is known what becomes of an entry: a source that was taken was asked for its size, and had the memory to answer.
+fn is_answered<S: Drop>(entry: &OpenEntry<S>) -> bool
+    ensures { result ≡ is_answered entry.now }
+{
+    match entry {
+        OpenEntry::Taken { size: None, .. } => false,
+        OpenEntry::Taken {
+            size: Some(Err(Trouble::Fail(FailKind::Memory))),
+            ..
+        } => false,
+        _ => true,
+    }
+}
+
+/// Whether it is known of all entries.
+fn all_answered<S: Drop>(entries: &[OpenEntry<S>]) -> bool
+    ensures { result ≡ list_all is_answered entries.now }
+{
+    entries.iter().all(|entry| is_answered(entry))
+}
+
+/// Takes the sources of a catalog that are marked, each once and in its order, and then asks each for its size once, side by side. Where memory is
+/// refused some may be taken.
+pub(crate) fn take_and_ask<W: Threads + Sync, H: Shelf>(
+    rt: &W,
+    alloc: Global,
+    shelf: &mut H,
+    catalog: &Catalog,
+    marks: &[bool],
+    entries: &mut Vec<OpenEntry<H::Item>>,
+) -> Result<(), Memory>
+    requires marks { length marks.now ≡ length catalog.now }
+    requires none { entries.old.items ≡ [] }
+    requires room { length catalog.now ≤ vec_capacity entries.old }
+    ensures taken { AreTaken (seen H.Item.list H.Item.states H.Item.at_hand H.Item.counts H.Item.calls) catalog.now marks.now
+        (shelf_seen H.texts H.lists H.versions H.at H.knows shelf.old) (shelf_seen H.texts H.lists H.versions H.at H.knows shelf.new) entries.new.items }
+    ensures all { OnOk result (length entries.new.items ≡ length catalog.now) }
+    ensures answered { OnOk result (list_all is_answered entries.new.items ≡ true) }
+    ensures once { OnOk result (AsksEachOnce catalog.now marks.now (H.at shelf.old) (H.at shelf.new)) }
+    ensures few { AsksEachAtMostOnce catalog.now marks.now (H.at shelf.old) (H.at shelf.new) }
+{
+    let Ok(()) = take_each(alloc, shelf, catalog, marks, entries) else {
+        return Err(Memory);
+    };
+    ask_all(rt, alloc, entries.as_mut_slice());
+    if all_answered(entries) {
+        Ok(())
+    } else {
+        Err(Memory)
+    }
 }

@@ -1,46 +1,55 @@
-use Rattle.std.proofs.Common.{length, subst}
-use Rattle.catalog_open.specs.Takings.{AreAsked}
-use Rattle.catalog_open.proofs.Taken.{known_asked, taken_asked}
-use Rattle.catalog_open.proofs.Unread.{gives_then, took_nothing}
-use Rattle.catalog_open.proofs.Settled.{few_alone, ok_so, once_alone}
+use Rattle.std.proofs.Common.{◌≡◌, [], All, ap, length, map, subst, sym, arith}
+use Rattle.std.proofs.lemmas.List.Elements.{All-from_recursion}
+use Rattle.catalog_open.specs.Entries.{IsMarked}
+use Rattle.catalog_open.specs.Openings.{IsKnownAt, IsUnread}
+use Rattle.catalog_open.specs.Slots.{IsIdle, of_slot}
+use Rattle.catalog_open.specs.Takings.{WasAsked, seen}
+use Rattle.catalog_open.proofs.Opens.{opened_as}
+use Rattle.catalog_open.proofs.Unread.{none_unread}
 use Rattle.catalog_open.proofs.opening.open_wanted.Goals as goal
 
-pub settle_all-settled-requires-clause-known : goal.settle_all-settled-requires-clause-known
-settle_all-settled-requires-clause-known g c κs borrowed =
-    known_asked g.H.Item.Source.list g.H.Item.Source.states g.H.Item.Source.at_hand g.H.Item.Source.counts (g.H.Shelf.lists c.args.shelf.now) (g.H.Shelf.versions c.args.shelf.now) c.args.catalog.now c.args.marks.now (g.H.Shelf.knows c.take_wanted-taken.new.shelf) c.take_wanted-taken.new.takings.items c.ask_all.new.takings (length c.args.catalog.now)
-    (subst (λ xs. AreAsked g.H.Item.Source.list g.H.Item.Source.states g.H.Item.Source.at_hand g.H.Item.Source.counts xs c.ask_all.new.takings) c.as_mut_slice-asked.ensures.value c.ask_all.ensures) c.take_wanted-taken.ensures.known
+pub returns-in_default : goal.returns-in_default
+returns-in_default g c =
+    let catalog = c.args.catalog.now in
+    let knows = g.H.Shelf.knows c.open_sources.new.shelf in
+    let view = seen g.H.Item.Source.list g.H.Item.Source.states g.H.Item.Source.at_hand g.H.Item.Source.counts g.H.Item.Source.calls in
+    let o = c.open_sources.ensures in
+    record {
+      texts = o.texts;
+      lists = o.lists;
+      versions = o.versions;
+      all = tt;
+      known = subst (All (IsKnownAt catalog knows)) (sym c.requires.places) (All-from_recursion (IsKnownAt catalog knows) [] tt);
+      back = o.back;
+      few = let none : length c.args.slots.now.items ≡ 0 = ap length c.requires.sources in omega (arith, none);
+      once = tt;
+      few_asks = o.few;
+      asked = subst (All (WasAsked view)) (sym c.requires.sources) (All-from_recursion (WasAsked view) [] tt);
+      idle = subst (All IsIdle) (sym c.requires.sources) (All-from_recursion IsIdle [] tt);
+      unread = subst (λ slots. All IsUnread (map (of_slot g.H.Item.Source.counts) slots)) (sym c.requires.sources) none_unread;
+      opened = opened_as (g.H.Shelf.lists c.args.shelf.now) (g.H.Shelf.versions c.args.shelf.now) catalog (IsMarked c.args.marks.now) (g.H.Shelf.at c.args.shelf.now)
+          (g.H.Shelf.at c.open_sources.new.shelf) [] c.args.opened.now.openings.items [] (map (of_slot g.H.Item.Source.list) c.args.slots.now.items)
+          [] (map (of_slot g.H.Item.Source.at_hand) c.args.slots.now.items) [] c.args.opened.now.places.items [] c.args.opened.now.counts.items
+          c.requires.openings (ap (map (of_slot g.H.Item.Source.list)) c.requires.sources) (ap (map (of_slot g.H.Item.Source.at_hand)) c.requires.sources) c.requires.places
+          c.requires.counts c.in_default.ensures.closed;
+    }
 
-pub settle_all-settled-requires-clause-taken : goal.settle_all-settled-requires-clause-taken
-settle_all-settled-requires-clause-taken g c κs borrowed = (
-  g.H.Shelf.lists c.args.shelf.now,
-  g.H.Shelf.versions c.args.shelf.now,
-  g.H.Shelf.at c.args.shelf.now,
-  taken_asked g.H.Item.Source.list g.H.Item.Source.states g.H.Item.Source.at_hand g.H.Item.Source.counts (g.H.Shelf.lists c.args.shelf.now) (g.H.Shelf.versions c.args.shelf.now) c.args.catalog.now c.args.marks.now c.take_wanted-taken.new.takings.items c.ask_all.new.takings (length c.args.catalog.now) (g.H.Shelf.at c.args.shelf.now) (g.H.Shelf.at c.take_wanted-taken.new.shelf)
-      (subst (λ xs. AreAsked g.H.Item.Source.list g.H.Item.Source.states g.H.Item.Source.at_hand g.H.Item.Source.counts xs c.ask_all.new.takings) c.as_mut_slice-asked.ensures.value c.ask_all.ensures) c.take_wanted-taken.ensures.taken,
-)
-
-pub returns-in-Ok-clause-back : goal.returns-in-Ok-clause-back
-returns-in-Ok-clause-back g c = λ place. gives_then _ _ _ (took_nothing _ _ (c.take_wanted-taken.ensures.counts place)) (c.settle_all-settled.ensures.back place)
-
-pub returns-in-Ok-clause-once : goal.returns-in-Ok-clause-once
-returns-in-Ok-clause-once g c =
-    ok_so c.if_settled.result _ _ c.if_settled.ensures (λ e. once_alone c.args.catalog.now c.args.marks.now (g.H.Shelf.at c.args.shelf.now) (g.H.Shelf.at c.take_wanted-taken.new.shelf) (g.H.Shelf.at c.settle_all-settled.new.shelf) c.in-Ok.ensures.once c.settle_all-settled.ensures.alone)
-
-pub returns-in-Ok-clause-few_asks : goal.returns-in-Ok-clause-few_asks
-returns-in-Ok-clause-few_asks g c = few_alone c.args.catalog.now c.args.marks.now (g.H.Shelf.at c.args.shelf.now) (g.H.Shelf.at c.take_wanted-taken.new.shelf) (g.H.Shelf.at c.settle_all-settled.new.shelf) c.take_wanted-taken.ensures.few c.settle_all-settled.ensures.alone
-
-pub returns-in-Ok-clause-opened : goal.returns-in-Ok-clause-opened
-returns-in-Ok-clause-opened g c =
-    c.settle_all-settled.ensures.opened (g.H.Shelf.lists c.args.shelf.now) (g.H.Shelf.versions c.args.shelf.now) (g.H.Shelf.at c.args.shelf.now) (taken_asked g.H.Item.Source.list g.H.Item.Source.states g.H.Item.Source.at_hand g.H.Item.Source.counts (g.H.Shelf.lists c.args.shelf.now) (g.H.Shelf.versions c.args.shelf.now) c.args.catalog.now c.args.marks.now c.take_wanted-taken.new.takings.items c.ask_all.new.takings (length c.args.catalog.now) (g.H.Shelf.at c.args.shelf.now) (g.H.Shelf.at c.take_wanted-taken.new.shelf)
-    (subst (λ xs. AreAsked g.H.Item.Source.list g.H.Item.Source.states g.H.Item.Source.at_hand g.H.Item.Source.counts xs c.ask_all.new.takings) c.as_mut_slice-asked.ensures.value c.ask_all.ensures) c.take_wanted-taken.ensures.taken) c.take_wanted-taken.ensures.counts
-
-pub returns-in-Err-clause-back : goal.returns-in-Err-clause-back
-returns-in-Err-clause-back g c = λ place. gives_then _ _ _ (took_nothing _ _ (c.take_wanted-taken.ensures.counts place)) (c.settle_all-settled.ensures.back place)
-
-pub returns-in-Err-clause-few_asks : goal.returns-in-Err-clause-few_asks
-returns-in-Err-clause-few_asks g c = few_alone c.args.catalog.now c.args.marks.now (g.H.Shelf.at c.args.shelf.now) (g.H.Shelf.at c.take_wanted-taken.new.shelf) (g.H.Shelf.at c.settle_all-settled.new.shelf) c.take_wanted-taken.ensures.few c.settle_all-settled.ensures.alone
-
-pub returns-in-Err-clause-opened : goal.returns-in-Err-clause-opened
-returns-in-Err-clause-opened g c =
-    c.settle_all-settled.ensures.opened (g.H.Shelf.lists c.args.shelf.now) (g.H.Shelf.versions c.args.shelf.now) (g.H.Shelf.at c.args.shelf.now) (taken_asked g.H.Item.Source.list g.H.Item.Source.states g.H.Item.Source.at_hand g.H.Item.Source.counts (g.H.Shelf.lists c.args.shelf.now) (g.H.Shelf.versions c.args.shelf.now) c.args.catalog.now c.args.marks.now c.take_wanted-taken.new.takings.items c.ask_all.new.takings (length c.args.catalog.now) (g.H.Shelf.at c.args.shelf.now) (g.H.Shelf.at c.take_wanted-taken.new.shelf)
-    (subst (λ xs. AreAsked g.H.Item.Source.list g.H.Item.Source.states g.H.Item.Source.at_hand g.H.Item.Source.counts xs c.ask_all.new.takings) c.as_mut_slice-asked.ensures.value c.ask_all.ensures) c.take_wanted-taken.ensures.taken) c.take_wanted-taken.ensures.counts
+pub returns : goal.returns
+returns g c =
+    let o = c.open_sources.ensures in
+    let i = c.in-Ok.ensures in
+    record {
+      texts = o.texts;
+      lists = o.lists;
+      versions = o.versions;
+      all = i.ready.all;
+      known = i.ready.known;
+      back = o.back;
+      few = i.ready.few;
+      once = i.once;
+      few_asks = o.few;
+      asked = i.ready.asked;
+      idle = i.ready.idle;
+      unread = i.ready.unread;
+      opened = i.opened;
+    }
