@@ -13,18 +13,20 @@ const TopkPicture = (() => {
   /** A table that may be wider than the page. */
   const scrolling = (label, table) => element("div", { class: "scroll", tabindex: "0", role: "region", "aria-label": label }, table);
 
+  /** A text in which what stands between back quotes is code. */
+  const withCode = (text) => text.split("`").map((part, place) => (place % 2 === 1 ? element("code", {}, part) : part));
+
   /** What is wrong with an outcome: a few words that stand out, and what explains them. */
   const wrong = (title, ...rest) => element("div", { class: "fault", role: "alert" }, element("strong", {}, title), " ", ...rest);
 
   function fault({ at, expected, found }) {
     const said = found === null ? "The text ends there." : ["It is: ", element("code", {}, found.slice(0, MOST_SHOWN)), "."];
-    // What stands between back quotes is code.
-    const wanted = expected.split("`").map((part, place) => (place % 2 === 1 ? element("code", {}, part) : part));
-    return wrong("This is no certificate.", `At line ${grouped(at)} was expected: `, ...wanted, ". ", ...said);
+    return wrong("This is no certificate.", `At line ${grouped(at)} was expected: `, ...withCode(expected), ". ", ...said);
   }
 
   function refusal({ name, fields, text }) {
-    return wrong("Refused: there is no answer.", TopkRefusals.meaning(name, fields), " ", element("code", {}, text));
+    const { sentence, cure } = TopkRefusals.explained(name, fields);
+    return wrong("Refused: there is no answer.", ...withCode(`${sentence} ${cure} `), element("code", {}, text));
   }
 
   /** The sums of a run, each with a line that explains it. */

@@ -33,7 +33,7 @@ class Element {
 }
 
 const document = { createElement: (name) => new Element(name), createElementNS: (_, name) => new Element(name) };
-const FILES = ["query", "refusals", "certificate", "course", "elements", "chart", "picture"];
+const FILES = ["query", "refusals", "sentences", "certificate", "course", "elements", "chart", "picture"];
 const script = FILES.map((name) => fs.readFileSync(path.join(__dirname, `${name}.js`), "utf8")).join("\n");
 const { readOutcomes, picture } = vm.runInNewContext(
   `${script}\n({ readOutcomes: TopkCertificate.readOutcomes, picture: TopkPicture.picture });`,
