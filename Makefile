@@ -1,22 +1,42 @@
-# topk: `make try` answers the query of a bundle without proving anything, `make run` proves the program first, `make test` passes all
-# proofs and tests and runs the program as users do, `make wrong-bodies` tries what the prover must refuse beside what the gate tries,
-# `make fail-alloc` refuses the program each allocation in turn, `make bench` tells how long queries take, `make threads` that workers change
-# no answer, and `make install PREFIX=..` puts the program, its manual page and the completions of shells where they belong.
+# make try      answers the hotels' query lines by the whole program, UNPROVED, in about two minutes, and leaves nothing
+# make topk     proves and builds the program, at ./topk: an hour or two the first time, and nothing where nothing changed
+# make test     all proofs and tests, the library and the program run as users run it
+# make run      `make topk`, and the answers to the hotels' query lines
+# make lib      the proved library, at c/out; it needs a C compiler
+# make install  the program, its manual page and completions, and the library where it is built; `make uninstall` takes them away
+# For contributors: make wrong-bodies, make fail-alloc, make bench, make threads.
 
 HOTELS = crates/topk/data
 
-# Where `make install` puts the program, the manual page and the completions of three shells; a package is made below DESTDIR.
+# What the program is proved and built from: all crates but those of tests.
+SOURCES := crates.txt HANDLES $(shell find crates -name out -prune -o -path 'crates/test_*' -prune -o \( -name '*.rt' -o -name '*.antt' \) -type f -print)
+
+# Where `make install` puts things; a package is made below DESTDIR. The library is the one beside the program.
 PREFIX = /usr/local
 PROGRAM = ./topk
+LIBRARY = $(dir $(PROGRAM))c/out
 BIN = $(DESTDIR)$(PREFIX)/bin
+LIB = $(DESTDIR)$(PREFIX)/lib
+INCLUDE = $(DESTDIR)$(PREFIX)/include
 SHARE = $(DESTDIR)$(PREFIX)/share
 
-.PHONY: topk try try-run run lib test wrong-bodies fail-alloc bench threads install uninstall
+.PHONY: try run lib test wrong-bodies fail-alloc bench threads install uninstall
 
-# The proved program, at ./topk. `rt run` proves it, builds it and runs it once.
-topk:
+# The answers to the hotels' query lines from the whole program, unproved. Some of the lines are refused, so the program's status is 1.
+HOTEL_FILES = --data catalog.csv=data/catalog.csv $(foreach list,price rating centre quiet,--data hotels/$(list).csv=data/hotels/$(list).csv)
+try:
+	@echo "unproved: compiling the whole program without its proofs, which takes about two minutes" >&2
+	@said=$$(mktemp) && trap 'rm -f "$$said"' EXIT && cd crates/topk && { rt try $(HOTEL_FILES) -- run catalog.csv < stdin > "$$said" 2>&1; \
+		cat "$$said"; tail -n 1 "$$said" | grep -q '^run=ended status=1 '; }
+	@echo "unproved: the answers above are of the program without its proofs; make topk proves and builds it"
+
+# The proved program. `rt run` proves it, builds it and runs it once. The file gets the time at which that began, so that what is edited meanwhile
+# counts as changed. A change of the kit isn't seen: remove the file then.
+topk: $(SOURCES)
+	mkdir -p crates/topk/out && touch crates/topk/out/begun
 	cd crates/topk && rt run -- one < ../examples/data/two_lists.bundle > /dev/null
-	cp crates/topk/out/topk topk
+	cp crates/topk/out/topk $@
+	touch -r crates/topk/out/begun $@
 
 # Some lines of the catalog's queries are refused, so the status is 1.
 run: topk
@@ -31,15 +51,6 @@ lib:
 	cp crates/topk_c/out/libtopk_c.a c/out/libtopk.a
 	$(AR) r c/out/libtopk.a c/out/heap.o
 	$(CC) -shared -o c/out/libtopk.so -Wl,--whole-archive c/out/libtopk.a -Wl,--no-whole-archive
-
-# The answer to the same bundle from the unproved code, in under a minute: nothing is proved, and nothing is left behind.
-try:
-	cd crates/topk_one && rt try < stdin
-
-# The answers to the query lines from the whole unproved program, in one to two minutes.
-try-run:
-	cd crates/topk && rt try $(foreach list,price rating centre quiet,--data hotels/$(list).csv=data/hotels/$(list).csv) \
-		--data catalog.csv=data/catalog.csv -- run catalog.csv < stdin; test $$? -eq 1
 
 # What `.ci/run` does, with the library built in between, so that its tests run too: the gate, and the program that it built, as a process with
 # words, streams, files, hosts and peers.
@@ -73,7 +84,7 @@ bench: topk
 threads: topk
 	bench/threads.py
 
-# It builds nothing, so that it may run with more rights than a build should have: `make topk` goes before it.
+# It builds nothing, so that it may run with more rights than a build should have: `make topk`, and `make lib` for the library, go before it.
 install:
 	@test -x "$(PROGRAM)" || { echo "there is no program at $(PROGRAM): make topk builds it" >&2; exit 1; }
 	install -D -m 755 "$(PROGRAM)" "$(BIN)/topk"
@@ -81,8 +92,19 @@ install:
 	install -D -m 644 docs/completions/topk.bash "$(SHARE)/bash-completion/completions/topk"
 	install -D -m 644 docs/completions/_topk "$(SHARE)/zsh/site-functions/_topk"
 	install -D -m 644 docs/completions/topk.fish "$(SHARE)/fish/vendor_completions.d/topk.fish"
+	@if test -e "$(LIBRARY)/libtopk.so"; then $(MAKE) --no-print-directory install-library; else echo "no library is built: make lib builds it"; fi
+
+.PHONY: install-library
+install-library:
+	install -D -m 644 "$(LIBRARY)/libtopk.a" "$(LIB)/libtopk.a"
+	install -D -m 755 "$(LIBRARY)/libtopk.so" "$(LIB)/libtopk.so"
+	install -D -m 644 c/topk.h "$(INCLUDE)/topk.h"
+	install -d "$(LIB)/pkgconfig"
+	sed -e "s|@PREFIX@|$(PREFIX)|" -e "s|@VERSION@|$$(cat VERSION)|" c/topk.pc.in > "$(LIB)/pkgconfig/topk.pc"
+	chmod 644 "$(LIB)/pkgconfig/topk.pc"
 
 # Takes away the same files, and no folder.
 uninstall:
 	rm -f "$(BIN)/topk" "$(SHARE)/man/man1/topk.1" "$(SHARE)/bash-completion/completions/topk" \
-		"$(SHARE)/zsh/site-functions/_topk" "$(SHARE)/fish/vendor_completions.d/topk.fish"
+		"$(SHARE)/zsh/site-functions/_topk" "$(SHARE)/fish/vendor_completions.d/topk.fish" \
+		"$(LIB)/libtopk.a" "$(LIB)/libtopk.so" "$(INCLUDE)/topk.h" "$(LIB)/pkgconfig/topk.pc"

@@ -35,6 +35,9 @@
 #include <stddef.h>
 #include <stdint.h>
 
+/* The version of this header and of the library beside it. */
+#define TOPK_VERSION "1.0.0"
+
 #ifdef __cplusplus
 extern "C" {
 #endif
@@ -43,8 +46,8 @@ extern "C" {
 enum topk_status {
     /* The query was answered, and the text is its certificate; or the accesses fix the answer, and the text is "fixes\n". */
     TOPK_DONE = 0,
-    /* The query was refused, and the text is the line that says why; or the answer is beaten, and the text has the table that beats
-     * it, or the bytes are a certificate that isn't judged or none, and the text is the line that says why. */
+    /* The query was refused, and the text is the line that says why; or the accesses don't fix the answer, and the text has a counterexample,
+     * or the bytes are a certificate that isn't judged or none, and the text is the line that says why. */
     TOPK_REFUSED = 1,
     /* Memory was refused. There is no text: *written is 0. */
     TOPK_MEMORY = 8,
