@@ -9,7 +9,7 @@ topic: special.py has inputs of 128 MB, full devices and threads that are counte
 beside the program, view.py the page that draws certificates, bridges.py the nodes over databases, hosts.py `run` over lists that hosts serve,
 bad_hosts.py over hosts that misbehave, nodes.py `node`, servers.py `serve`, peers.py both with curl, nginx and others, sharing.py queries that share
 sources on threads, and starving.py those in which each allocation is refused in turn. wrong_bodies.py says whether the wrong bodies beside the gate's can
-still be applied, and version.py has the version and what `make` does with it.
+still be applied, version.py has the version and what `make` does with it, and manual.py the manual page.
 
 What a machine lacks (machine.py) is skipped by name, as are tests that haven't begun when the minutes are over, so that no machine fails a test.
 Ends with 'N passed, M failed', and with the status 0 exactly where none failed. Standard library alone.
@@ -30,7 +30,7 @@ import traceback
 OLDEST = (3, 9)
 HERE = pathlib.Path(__file__).resolve().parent
 PROGRAM = HERE.parent / "crates" / "topk" / "out" / "topk"
-TOPICS = ("wrong_bodies", "version", "special", "completions", "library", "view", "bridges", "hosts", "bad_hosts", "nodes", "servers", "peers", "sharing", "starving")
+TOPICS = ("wrong_bodies", "version", "manual", "special", "completions", "library", "view", "bridges", "hosts", "bad_hosts", "nodes", "servers", "peers", "sharing", "starving")
 # Tests that wait most of their time, for what comes only after half a minute or a whole one. They begin first, on threads beside the others; who ends
 # the run from outside waits for them too.
 WAITING = {"servers_given_up", "bad_hosts_server_over_silence", "bad_hosts_silent"}
