@@ -2,11 +2,18 @@
 
 The figures were worked out by hand: those of two_lists stand in docs/CERTIFICATE.md.
 """
+import contextlib
+import fcntl
 import html.parser
+import json
 import os
 import pathlib
 import re
+import select
+import signal
 import subprocess
+import sys
+import time
 import urllib.parse
 
 from machine import Skipped, needs, no_memory, no_threads, path_of, peer, scratch
@@ -19,7 +26,12 @@ CASES = ROOT / "tests" / "cases"
 BROWSERS = ("chromium", "chromium-browser", "google-chrome", "chrome")
 EMPTY = {"area", "base", "br", "col", "hr", "img", "input", "link", "meta", "source", "wbr"}
 SUMS = ("cost", "depth", "rows not read", "grades never known")
-_unable = []
+# How long the browser may take for one answer.
+ANSWER_SECONDS = 120
+# True of the page once what it was given is drawn.
+DRAWN = "document.getElementById('picture').getAttribute('aria-busy') === 'false'"
+# Runs a program that reads at 3 and writes at 4, where a browser has its pipes.
+AT_3_AND_4 = "import os, sys; os.dup2(int(sys.argv[1]), 3); os.dup2(int(sys.argv[2]), 4); os.execv(sys.argv[3], sys.argv[3:])"
 
 
 class Element:
@@ -72,30 +84,141 @@ class Reader(html.parser.HTMLParser):
         self.open[-1].children.append(data)
 
 
-def page(text, pick=1):
-    """The page as a browser shows it, with a text in its address. A browser that couldn't show it once isn't asked again."""
-    if _unable:
-        raise Skipped(_unable[0])
-    try:
-        return Reader(dumped(path_of(*BROWSERS), text, pick)).root
-    except Skipped as why:
-        _unable.append(str(why))
-        raise
+class Browser:
+    """A browser without a window, which does what it is told over two pipes, in its protocol for development (messages of JSON, each before a byte 0)."""
+
+    def __init__(self, told, tells):
+        self.told, self.tells, self.read, self.calls, self.session, self.events = told, tells, b"", 0, {}, []
+
+    def begin(self):
+        """Takes the one page that the browser has, and asks to be told of its faults."""
+        pages = [it for it in self.call("Target.getTargets")["targetInfos"] if it["type"] == "page"]
+        attached = self.call("Target.attachToTarget", targetId=pages[0]["targetId"], flatten=True)
+        self.session = {"sessionId": attached["sessionId"]}
+        for domain in ("Page", "Runtime", "Log", "DOM", "Accessibility"):
+            self.call(f"{domain}.enable")
+
+    def call(self, method, **params):
+        """What the browser answers."""
+        self.calls += 1
+        os.write(self.told, json.dumps({"id": self.calls, "method": method, "params": params, **self.session}).encode() + b"\0")
+        late = time.monotonic() + ANSWER_SECONDS
+        while True:
+            message = self.message(late)
+            if message.get("id") == self.calls:
+                if "error" in message:
+                    raise ValueError(f"{method}: {message['error']}")
+                return message["result"]
+            self.events.append(message)
+
+    def message(self, late):
+        while b"\0" not in self.read:
+            if not select.select([self.tells], [], [], max(0, late - time.monotonic()))[0]:
+                raise ValueError(f"the browser doesn't answer within {ANSWER_SECONDS} s")
+            more = os.read(self.tells, 1 << 20)
+            if not more:
+                raise EOFError("the browser has ended")
+            self.read += more
+        text, _, self.read = self.read.partition(b"\0")
+        return json.loads(text)
+
+    def value(self, script):
+        """What a script comes to in the page."""
+        done = self.call("Runtime.evaluate", expression=script, awaitPromise=True, returnByValue=True)
+        if "exceptionDetails" in done:
+            raise ValueError(f"{script}: {done['exceptionDetails']}")
+        return done["result"].get("value")
+
+    def open(self, width=1000, colours="light", **fragment):
+        """Opens the page on a screen of a width, with what its address has behind `#`, and waits until it is drawn."""
+        self.call("Emulation.setDeviceMetricsOverride", width=width, height=900, deviceScaleFactor=1, mobile=False)
+        self.call("Emulation.setEmulatedMedia", features=[{"name": "prefers-color-scheme", "value": colours}])
+        # Another page first, since a change behind `#` alone opens none.
+        self.call("Page.navigate", url="about:blank")
+        self.call("Page.navigate", url=f"{(VIEW / 'index.html').as_uri()}#{urllib.parse.urlencode(fragment)}")
+        self.wait("document.readyState === 'complete' && document.getElementById('picture') !== null")
+        if fragment:
+            self.wait(DRAWN)
+        return self
+
+    def wait(self, script):
+        """Waits until a script is true of the page."""
+        late = time.monotonic() + ANSWER_SECONDS
+        while not self.value(script):
+            if time.monotonic() > late:
+                raise ValueError(f"isn't so within {ANSWER_SECONDS} s: {script}")
+            time.sleep(0.02)
+
+    def choose(self, control, *files):
+        """Chooses files at a control, and waits until they are drawn."""
+        root = self.call("DOM.getDocument")["root"]["nodeId"]
+        node = self.call("DOM.querySelector", nodeId=root, selector=f"#{control}")["nodeId"]
+        self.value("document.getElementById('picture').removeAttribute('aria-busy')")
+        self.call("DOM.setFileInputFiles", nodeId=node, files=[str(it) for it in files])
+        self.wait(DRAWN)
+
+    def press(self, key, code):
+        """Presses a key."""
+        text = {"text": "\r"} if key == "Enter" else {}
+        for kind in ("keyDown", "keyUp"):
+            self.call("Input.dispatchKeyEvent", type=kind, key=key, code=key, windowsVirtualKeyCode=code, **text)
+
+    def shown(self):
+        """The page as the browser shows it."""
+        return Reader(self.value("document.documentElement.outerHTML")).root
+
+    def faults(self):
+        """What the browser's console was told of errors."""
+        told = [it for it in self.events if it.get("method") in ("Runtime.exceptionThrown", "Runtime.consoleAPICalled", "Log.entryAdded")]
+        return [json.dumps(it["params"])[:500] for it in told]
 
 
-def dumped(browser, text, pick):
-    """What a browser has made of the page."""
+def high_pipe():
+    """A pipe whose two ends have numbers beyond those at which a browser has its own: where one reads, and where one writes."""
+    low = os.pipe()
+    ends = [fcntl.fcntl(end, fcntl.F_DUPFD_CLOEXEC, 10) for end in low]
+    for end in low:
+        os.close(end)
+    return ends
+
+
+def begun(program, hears, says, place):
+    """A browser that is told at `hears` what to do, and tells at `says`; it keeps what it writes in a folder."""
+    own = dict(os.environ, HOME=place, XDG_CONFIG_HOME=place, XDG_CACHE_HOME=place, XDG_RUNTIME_DIR=place)
+    words = [program, "--headless", "--no-sandbox", "--disable-gpu", "--disable-dev-shm-usage", "--disable-crash-reporter", "--no-first-run",
+             f"--user-data-dir={place}", "--remote-debugging-pipe", "about:blank"]
+    nothing = {"stdin": subprocess.DEVNULL, "stdout": subprocess.DEVNULL, "stderr": subprocess.DEVNULL}
+    return subprocess.Popen([sys.executable, "-c", AT_3_AND_4, str(hears), str(says), *words], pass_fds=(hears, says), env=own,
+                            start_new_session=True, **nothing)
+
+
+@contextlib.contextmanager
+def browser():
+    """A browser, which is ended with all that it started. One that has no room or no right to run ends before it answers anything: a skip."""
+    program = path_of(*BROWSERS)
     needs(no_threads(100), no_memory(1000))
-    address = f"{(VIEW / 'index.html').as_uri()}#{urllib.parse.urlencode({'text': text, 'pick': pick})}"
-    with scratch() as place:
-        own = dict(os.environ, HOME=place, XDG_CONFIG_HOME=place, XDG_CACHE_HOME=place, XDG_RUNTIME_DIR=place)
-        words = [browser, "--headless", "--no-sandbox", "--disable-gpu", "--disable-dev-shm-usage", "--disable-crash-reporter", "--no-first-run",
-                 "--window-size=1000,1200", f"--user-data-dir={place}", "--dump-dom", address]
-        done = peer(words, env=own, stderr=subprocess.DEVNULL)
-    # A browser that has no room or no right to run ends without a page, or with one of its own.
-    if b"</html>" not in done.stdout or b'role="status"' not in done.stdout:
-        raise Skipped(f"{browser} shows no page")
-    return done.stdout.decode()
+    (hears, told), (tells, says) = high_pipe(), high_pipe()
+    with scratch() as place, contextlib.ExitStack() as ends:
+        ends.callback(os.close, told)
+        ends.callback(os.close, tells)
+        try:
+            ends.callback(ended, begun(program, hears, says, place))
+        finally:
+            os.close(hears)
+            os.close(says)
+        page = Browser(told, tells)
+        try:
+            page.begin()
+        except (EOFError, BrokenPipeError):
+            raise Skipped(f"{program} ends before it answers") from None
+        yield page
+
+
+def ended(process):
+    """Ends a process and all that it started."""
+    with contextlib.suppress(ProcessLookupError, PermissionError):
+        os.killpg(process.pid, signal.SIGKILL)
+    process.wait()
 
 
 def first_difference(rows):
@@ -116,11 +239,17 @@ def view_logic(_):
     return None if done.returncode == 0 else f"node ended with {done.returncode}: {done.stdout[-1500:].decode(errors='replace')}"
 
 
+def answered(program, bundle):
+    """What the program writes of a bundle."""
+    return run(program, ["one"], bundle).stdout.decode()
+
+
 def view_of_an_answer(program):
     """The certificate that the program writes of two_lists is drawn: bars, thresholds depth by depth, accesses, sums."""
-    written = run(program, ["one"], (BUNDLES / "two_lists.bundle").read_bytes()).stdout.decode()
-    shown = page(written)
-    answers, lists = next(shown.all(id="answers")), next(shown.all(id="lists"))
+    written = answered(program, (BUNDLES / "two_lists.bundle").read_bytes())
+    with browser() as page:
+        shown = page.open(text=written).shown()
+    answers, lists = next(shown.all(class_="answers")), next(shown.all(class_="lists"))
     return first_difference([
         ("query", shown.texts("p", class_="query"), ["top 1 by sum(A,B) using ta"]),
         ("answer", [answers.texts("th", scope="row"), answers.texts("td", class_="number")], [["2"], ["1,500", "1,500"]]),
@@ -139,14 +268,16 @@ def view_of_an_answer(program):
         ("not read", lists.texts("td", class_="unread"), ["1 of 3 not read", "1 of 3 not read"]),
         ("sums", [next(shown.all("dd", data_figure=it)).children[0] for it in SUMS], ["7", "2", "2", "0"]),
         ("lines of the chart", len(list(shown.all("polyline"))), 2),
+        ("console", page.faults(), []),
     ])
 
 
 def view_of_an_open_answer(program):
     """Without random access an answer's greatest sum may stay above its least: 900 and 1100, and no other has more than 400."""
-    written = run(program, ["one"], (BUNDLES / "bounds_that_differ.bundle").read_bytes()).stdout.decode()
-    shown = page(written)
-    answers, lists = next(shown.all(id="answers")), next(shown.all(id="lists"))
+    written = answered(program, (BUNDLES / "bounds_that_differ.bundle").read_bytes())
+    with browser() as page:
+        shown = page.open(text=written).shown()
+    answers, lists = next(shown.all(class_="answers")), next(shown.all(class_="lists"))
     return first_difference([
         ("answer", answers.texts("td", class_="number"), ["900", "1,100"]),
         ("least", answers.styles(class_="bar-low"), ["width: 81.82%"]),
@@ -158,8 +289,9 @@ def view_of_an_open_answer(program):
 
 def view_of_a_guarantee(program):
     """What is guaranteed of an answer within a factor stands beside it; from 1400 on, 7/8 of the threshold, the run may stop."""
-    written = run(program, ["one"], (CASES / "one_within" / "input").read_bytes()).stdout.decode()
-    shown = page(written)
+    written = answered(program, (CASES / "one_within" / "input").read_bytes())
+    with browser() as page:
+        shown = page.open(text=written).shown()
     return first_difference([
         ("guarantee", shown.texts("p", data_figure="guarantee"),
          ["Guaranteed: no object outside is better by more than the factor 8/7 (at most 1.143 times as much)."]),
@@ -170,25 +302,29 @@ def view_of_a_guarantee(program):
 
 
 def view_of_several(_):
-    """Of several outcomes one is picked; a refusal and a text that is no certificate are said to be so."""
-    answered = "certificate 2\nquery top 1 by A using ta\ncount 1\nanswer 5 7 7\nstop depth 1 sorted 1 random 0 cost 1\ns A 5 7\nend\n"
-    text = f"refused 1 NoRandom quiet\n{answered}hello\n"
-    first, second, third = page(text), page(text, 2), page(text, 3)
+    """Of several outcomes one is picked; a refusal and a text that is no certificate are said to be so, a refusal with what to do."""
+    one = "certificate 2\nquery top 1 by A using ta\ncount 1\nanswer 5 7 7\nstop depth 1 sorted 1 random 0 cost 1\ns A 5 7\nend\n"
+    text = f"refused 1 NoRandom quiet\n{one}hello\n"
+    with browser() as page:
+        first, second, third = (page.open(text=text, pick=pick).shown() for pick in (1, 2, 3))
+    choices = ["refused 1 NoRandom quiet", "certificate 2: top 1 by A using ta", "no certificate, at line 9 of the text"]
     return first_difference([
-        ("choices", first.texts("option"),
-         ["refused 1 NoRandom quiet", "certificate 2: top 1 by A using ta", "no certificate, at line 9 of the text"]),
+        ("choices", [list(it.texts("option")) for it in first.all("select")], [choices, ["nothing", *choices]]),
         ("status", first.texts("p", role="status"), ["1 certificate, 1 refusal, 1 text that can't be read."]),
         ("refusal", first.texts("strong"), ["Refused: there is no answer."]),
+        ("what to do", ["Use nra, which makes no random access" in it for it in first.texts(role="alert")], [True]),
         ("certificate", second.texts("p", class_="query"), ["top 1 by A using ta"]),
         ("no certificate", third.texts("strong"), ["This is no certificate."]),
+        ("console", page.faults(), []),
     ])
 
 
 def view_is_labelled(_):
     """Each control has a label, each picture a text, each wide table a name, and nothing comes from elsewhere."""
-    shown = page((BUNDLES / "two_lists.text").read_text(encoding="utf-8"))
+    with browser() as page:
+        shown = page.open(text=(BUNDLES / "two_lists.text").read_text(encoding="utf-8")).shown()
     labels = {it.attributes["for"] for it in shown.all("label")}
-    controls = {it.attributes["id"] for name in ("input", "select", "textarea") for it in shown.all(name)}
+    controls = {it.attributes["id"] for name in ("input", "select", "textarea", "progress") for it in shown.all(name)}
     places = [it.attributes.get("src") or it.attributes.get("href") for name in ("script", "link", "img") for it in shown.all(name)]
     return first_difference([
         ("labels", labels, controls),
@@ -198,7 +334,177 @@ def view_is_labelled(_):
     ])
 
 
+# How many times longer than on an idle processor of two years ago a piece of work takes now, like that of the page.
+SLOWNESS = """(() => {
+  const began = performance.now();
+  for (let turn = 0; turn < 5; turn += 1) {
+    const seen = new Map();
+    for (let at = 0; at < 40000; at += 1) seen.set(at, /^s ([a-z]+) ([0-9]+)$/.exec(`s list ${at}`)[2]);
+  }
+  return (performance.now() - began) / IDLE;
+})()""".replace("IDLE", "60")
+
+# Notes of the page, from when files are chosen until they are drawn: the milliseconds, the longest time in which it did nothing else, the shares shown.
+NOTES = """(() => {
+  const [file, picture, bar] = ["file", "picture", "progress"].map((id) => document.getElementById(id));
+  window.notes = { began: 0, took: null, longest: 0, last: 0, shares: [] };
+  const tick = () => {
+    notes.longest = Math.max(notes.longest, performance.now() - notes.last);
+    notes.last = performance.now();
+    if (!bar.hidden) notes.shares.push(bar.value);
+    if (notes.took === null) setTimeout(tick);
+  };
+  file.addEventListener("change", () => { notes.began = notes.last = performance.now(); tick(); });
+  new MutationObserver(() => {
+    if (notes.began > 0 && picture.getAttribute("aria-busy") === "false") notes.took = performance.now() - notes.began;
+  }).observe(picture, { attributes: true });
+})()"""
+
+# What of the page is wider than its place.
+CUT_OFF = """[document.documentElement, ...document.querySelectorAll(".scroll")].filter((it) => it.scrollWidth > it.clientWidth).length"""
+
+
+def long_certificate(program, algorithm, place):
+    """A certificate of more than 4 MB, as a file."""
+    table = run(program, ["make", "--start", "7", "--count", "40000", "--lists", "8"]).stdout
+    query = f"query top 10 by sum(l1,l2,l3,l4,l5,l6,l7,l8) using {algorithm}\n".encode()
+    file = pathlib.Path(place) / f"{algorithm}.text"
+    file.write_bytes(run(program, ["one"], table + query).stdout)
+    return file
+
+
+def drawn_long(page, file, width, colours):
+    """What is wrong with the picture of a long certificate on a screen, or None."""
+    page.open(width, colours)
+    page.value(NOTES)
+    slow = page.value(SLOWNESS)
+    page.choose("file", file)
+    slow = max(1, slow, page.value(SLOWNESS))
+    notes, shown = page.value("notes"), f"{file.name} at {width}, {colours}"
+    paper = page.value("getComputedStyle(document.body).backgroundColor")
+    wrong = first_difference([
+        (f"{shown}: elements up to 5,000", page.value("document.querySelectorAll('*').length") <= 5000, True),
+        (f"{shown}: parts that are cut off", page.value(CUT_OFF), 0),
+        (f"{shown}: text field", page.value("document.getElementById('text').value"), ""),
+        (f"{shown}: pictures and charts", page.value("[document.querySelectorAll('article').length, document.querySelectorAll('polyline').length > 1]"), [1, True]),
+        (f"{shown}: paper is dark", sum(map(int, re.findall(r"\d+", paper)[:3])) < 384, colours == "dark"),
+        (f"{shown}: shares of progress rise", len(set(notes["shares"])) > 3, True),
+        (f"{shown}: console", page.faults(), []),
+    ])
+    if wrong is None and notes["took"] > 2000 * slow:
+        return f"{shown}: took {notes['took']:.0f} ms on a machine that is {slow:.1f} times slower than an idle one"
+    if wrong is None and notes["longest"] > 300 * slow:
+        return f"{shown}: didn't answer for {notes['longest']:.0f} ms on a machine that is {slow:.1f} times slower than an idle one"
+    return wrong
+
+
+def view_of_long_certificates(program):
+    """A certificate of 4 MB is drawn in 2 s, with at most 5,000 elements and nothing cut off, on narrow and wide screens, dark and light; meanwhile the page answers."""
+    with scratch() as place:
+        for algorithm in ("fa", "ta", "nra"):
+            file = long_certificate(program, algorithm, place)
+            if file.stat().st_size < 4_000_000:
+                return f"{file.name} has {file.stat().st_size} bytes alone"
+            with browser() as page:
+                for width in (360, 1280):
+                    for colours in ("light", "dark"):
+                        # The best of three, since other programs of the machine take the processor now and then.
+                        wrong = [drawn_long(page, file, width, colours)]
+                        while wrong[-1] is not None and " ms " in wrong[-1] and len(wrong) < 3:
+                            wrong.append(drawn_long(page, file, width, colours))
+                        if wrong[-1] is not None:
+                            return wrong[-1]
+    return None
+
+
+# Where the pictures and the charts of a page stand.
+PLACES = """["article", ".course svg[role=img]"].map((name) => [...document.querySelectorAll(name)].map((it) => {
+  const box = it.getBoundingClientRect();
+  return [Math.round(box.x), Math.round(box.y)];
+}))"""
+
+
+def view_of_two(program):
+    """`ta` and `nra` over the same lists stand side by side, with what each took, and on a narrow screen one over the other."""
+    bundle = (BUNDLES / "two_lists.bundle").read_text(encoding="utf-8")
+    both = "".join(answered(program, bundle.replace("using ta", f"using {it}").encode()) for it in ("ta", "nra"))
+    with browser() as page:
+        shown = page.open(1280, text=both, pick=1, beside=2).shown()
+        wide, wide_cut = page.value(PLACES), page.value(CUT_OFF)
+        narrow, narrow_cut = page.open(360, text=both, pick=1, beside=2).value(PLACES), page.value(CUT_OFF)
+    figures = {it: [shown.texts("span", data_figure=f"{it} {number}") for number in (1, 2)] for it in ("cost", "depth", "random accesses")}
+    return first_difference([
+        ("figures", figures, {"cost": [["7"], ["4"]], "depth": [["2"], ["2"]], "random accesses": [["3"], ["0"]]}),
+        ("both", shown.texts("p", data_figure="both"), ["Both name the same object."]),
+        ("queries", shown.texts("p", class_="query"), ["top 1 by sum(A,B) using ta", "top 1 by sum(A,B) using nra"]),
+        ("side by side", [[one[0] < other[0], one[1] == other[1]] for one, other in wide], [[True, True]] * 2),
+        ("one over the other", [[one[0] == other[0], one[1] < other[1]] for one, other in narrow], [[True, True]] * 2),
+        ("cut off", [wide_cut, narrow_cut], [0, 0]),
+        ("console", page.faults(), []),
+    ])
+
+
+def view_of_names(program):
+    """A file of keys gives objects their names; one that is none is told, and the numbers stay."""
+    written = answered(program, (BUNDLES / "two_lists.bundle").read_bytes())
+    with scratch() as place, browser() as page:
+        keys, none = pathlib.Path(place) / "keys.csv", pathlib.Path(place) / "none.csv"
+        keys.write_text('object,key\n1,Astoria\n2,"Bristol, ""old"" <i>house</i>"\n', encoding="utf-8")
+        none.write_text("object,key\n1\n", encoding="utf-8")
+        page.open(text=written)
+        page.choose("keys", keys)
+        named = page.shown()
+        page.choose("keys", none)
+        numbered = page.shown()
+    heads = [list(next(it.all(class_="answers")).texts("th", scope="row")) for it in (named, numbered)]
+    return first_difference([
+        ("answers", heads, [['Bristol, "old" <i>house</i>'], ["2"]]),
+        ("rows", named.texts("div", class_="row")[:2], ["Astoria has 900", '★ Bristol, "old" <i>house</i> has 700']),
+        ("status", named.texts("p", role="status"), ["1 certificate. 2 objects with names."]),
+        ("status of none", numbered.texts("p", role="status"), ["1 certificate. Record 2 of the keys isn't an object and its key."]),
+        ("console", page.faults(), []),
+    ])
+
+
+# What has the focus: its name in the page, and whether it shows that.
+FOCUS = """(() => {
+  const it = document.activeElement;
+  return [it.id || it.getAttribute("aria-label") || it.localName, getComputedStyle(it).outlineStyle !== "none"];
+})()"""
+STOPS = ["file", "keys", "summary", "text", "button", "example", "pair", "pick", "beside", "What both took",
+         "Answers with their bounds", "Lists, depth by depth", "Answers with their bounds", "Lists, depth by depth"]
+
+
+def view_by_keyboard(_):
+    """Each control and each wide table is reached by Tab, in the order of the page, and shows it; who hears the page is told the tables' rows and cells."""
+    with browser() as page:
+        page.open(360)
+        for _ in STOPS[:7]:
+            page.press("Tab", 9)
+        page.value("document.getElementById('picture').removeAttribute('aria-busy')")
+        page.press("Enter", 13)
+        page.wait(DRAWN)
+        page.value("document.activeElement.blur(), document.getElementById('file').focus()")
+        stops = [page.value(FOCUS)]
+        for _ in STOPS[1:]:
+            page.press("Tab", 9)
+            stops.append(page.value(FOCUS))
+        heard = [it for it in page.call("Accessibility.getFullAXTree")["nodes"] if not it["ignored"]]
+    told = [(it["role"]["value"], it.get("name", {}).get("value", "")) for it in heard]
+    silent = [role for role, name in told if role in ("button", "combobox", "textbox", "image", "region", "progressbar") and not name.strip()]
+    return first_difference([
+        ("stops", [name for name, _ in stops], STOPS),
+        ("stops that show the focus", [shows for _, shows in stops], [True] * len(STOPS)),
+        ("without a name", silent, []),
+        ("rows of tables that are heard", sum(role == "row" for role, _ in told) >= 15, True),
+        ("cells that are heard", sum(role in ("cell", "gridcell") for role, _ in told) >= 20, True),
+        ("heads that are heard", {role for role, _ in told} >= {"table", "rowheader", "columnheader"}, True),
+        ("console", page.faults(), []),
+    ])
+
+
 def tests():
     """Each test with its name."""
-    for test in (view_logic, view_of_an_answer, view_of_an_open_answer, view_of_a_guarantee, view_of_several, view_is_labelled):
+    for test in (view_logic, view_of_an_answer, view_of_an_open_answer, view_of_a_guarantee, view_of_several, view_is_labelled,
+                 view_of_long_certificates, view_of_two, view_of_names, view_by_keyboard):
         yield test.__name__, test

@@ -4,21 +4,25 @@
 const TopkChart = (() => {
   const { element, shape, grouped, share } = TopkElements;
   const HEIGHT = 280;
-  const EDGE = { left: 8, right: 16, top: 12, bottom: 40 };
+  const EDGE = { left: 8, right: 16, top: 26, bottom: 40 };
   const CHARACTER = 7.5;
-  const MOST_POINTS = 60;
+  const MOST_MARKS = 40;
 
-  /** The lines of a chart: a class, a name, and what a stage has of it. */
-  function linesOf({ k, algorithm, factor }) {
+  /** The lines of a chart: a class, a title, and their values by depth. */
+  function linesOf({ k, algorithm, factor }, { points, stages }) {
     const kth = TopkQuery.BY_THRESHOLD.includes(algorithm) ? "aggregate" : "low";
+    const line = (name, title, of, from = points) => {
+      const values = from.map((point) => ({ depth: point.depth, value: of(point) }));
+      return { name, title, values: values.filter(({ value }) => value !== null) };
+    };
     const lines = [
-      { name: "threshold", title: "threshold", of: (stage) => stage.threshold },
-      { name: "kth", title: `k-th ${kth}, k = ${grouped(k)}`, of: (stage) => stage.kthLow },
+      line("threshold", "threshold", (point) => point.threshold),
+      line("kth", `k-th ${kth}, k = ${grouped(k)}`, (point) => point.kthLow),
     ];
     const share = factor === null ? "" : `${grouped(factor.q)}/${grouped(factor.p)} of the threshold, which is enough`;
-    if (factor !== null) lines.push({ name: "enough", title: share, of: (stage) => stage.enough });
-    const rival = { name: "rival", title: "greatest high of another object", of: (stage) => stage.rival?.high ?? null };
-    if (TopkQuery.BY_BOUNDS.includes(algorithm)) lines.push(rival);
+    if (factor !== null) lines.push(line("enough", share, (point) => point.enough));
+    const isByBounds = TopkQuery.BY_BOUNDS.includes(algorithm);
+    if (isByBounds) lines.push(line("rival", "greatest high of another object", (stage) => stage.rival?.high ?? null, stages));
     return lines;
   }
 
@@ -33,49 +37,64 @@ const TopkChart = (() => {
     return values;
   }
 
+  /** What charts of some runs have to show, so that they can be drawn alike: pairs of a query and its study. */
+  function frameOf(runs) {
+    const shown = runs.flatMap(([query, study]) => linesOf(query, study).flatMap((line) => line.values.map(({ value }) => value)));
+    const least = shown.reduce((one, other) => (other < one ? other : one));
+    const greatest = shown.reduce((one, other) => (other > one ? other : one));
+    return { values: roundValues(least, greatest), last: Math.max(...runs.map(([, study]) => study.depth)) };
+  }
+
   /** Where depths and values stand in a chart of a width. */
-  function scalesOf(stages, lines, width) {
-    const shown = stages.flatMap((stage) => lines.map((line) => line.of(stage))).filter((value) => value !== null);
-    const values = roundValues(shown.reduce((a, b) => (b < a ? b : a)), shown.reduce((a, b) => (b > a ? b : a)));
+  function scalesOf({ values, last }, width) {
     const left = EDGE.left + CHARACTER * Math.max(...values.map((value) => grouped(value).length));
     const right = width - EDGE.right;
-    const [first, last] = [stages[0].depth, stages.at(-1).depth];
     const [lowest, highest] = [values[0], values.at(-1)];
     return {
       values,
       left,
       right,
-      first,
       last,
-      x: (depth) => left + 12 + (last === first ? (right - left) / 2 : ((right - left - 12) * (depth - first)) / (last - first)),
+      x: (depth) => left + 12 + (last === 1 ? (right - left) / 2 : ((right - left - 12) * (depth - 1)) / (last - 1)),
       y: (value) => EDGE.top + (HEIGHT - EDGE.top - EDGE.bottom) * (1 - share(value - lowest, highest - lowest)),
     };
   }
 
-  /** Depths from the first on, at most so many. */
-  function ticks(first, last, most) {
-    const step = Math.max(1, Math.ceil((last - first) / (most - 1)));
-    return Array.from({ length: Math.floor((last - first) / step) + 1 }, (_, place) => first + place * step);
+  /** Round depths up to the last, at most so many, and the first. */
+  function ticks(last, most) {
+    const wanted = Math.max(1, Math.ceil(last / most));
+    const power = 10 ** (String(wanted).length - 1);
+    const step = [1, 2, 5, 10].map((times) => times * power).find((size) => size >= wanted);
+    const round = Array.from({ length: Math.floor(last / step) }, (_, place) => (place + 1) * step);
+    return step === 1 ? round : [1, ...round];
   }
 
-  function axes({ values, left, right, first, last, x, y }) {
+  function axes({ values, left, right, last, x, y }) {
     const bottom = HEIGHT - EDGE.bottom;
-    const most = Math.floor((right - left) / 50);
+    const most = Math.max(2, Math.floor((right - left) / 55));
     const centred = (at, down, text) => shape("text", { x: at, y: bottom + down, "text-anchor": "middle" }, text);
     return [
       ...values.flatMap((value) => [
         shape("line", { class: "axis", x1: left, x2: right, y1: y(value), y2: y(value) }),
         shape("text", { x: left - 6, y: y(value) + 4, "text-anchor": "end" }, grouped(value)),
       ]),
-      ...ticks(first, last, most).map((depth) => centred(x(depth), 17, grouped(depth))),
+      ...ticks(last, most).map((depth) => centred(x(depth), 17, grouped(depth))),
       centred((left + right) / 2, 35, "depth"),
     ];
   }
 
-  function drawn(line, stages, scales) {
-    const points = stages.filter((stage) => line.of(stage) !== null).map((stage) => [scales.x(stage.depth), scales.y(line.of(stage))]);
-    const marks = points.length > MOST_POINTS ? [] : points.map(([cx, cy]) => shape("circle", { class: line.name, cx, cy, r: 3.5 }));
-    return [shape("polyline", { class: line.name, points: points.map(([x, y]) => `${x.toFixed(1)},${y.toFixed(1)}`).join(" ") }), ...marks];
+  /** An upright line at the depth where a run ended, with that depth. */
+  function stopMark(depth, { x, left, right }) {
+    const at = x(depth);
+    const anchor = at - left < 60 ? "start" : right - at < 60 ? "end" : "middle";
+    const line = shape("line", { class: "stop", x1: at, x2: at, y1: EDGE.top - 6, y2: HEIGHT - EDGE.bottom });
+    return [line, shape("text", { class: "stop", x: at, y: EDGE.top - 11, "text-anchor": anchor }, `stops at ${grouped(depth)}`)];
+  }
+
+  function drawn(line, scales) {
+    const points = line.values.map(({ depth, value }) => [scales.x(depth).toFixed(1), scales.y(value).toFixed(1)]);
+    const marks = points.length > MOST_MARKS ? [] : points.map(([cx, cy]) => shape("circle", { class: line.name, cx, cy, r: 3.5 }));
+    return [shape("polyline", { class: line.name, points: points.map((point) => point.join(",")).join(" ") }), ...marks];
   }
 
   function legend(lines) {
@@ -84,16 +103,16 @@ const TopkChart = (() => {
     return element("ul", { class: "legend" }, lines.map((line) => element("li", {}, sample(line), line.title)));
   }
 
-  /** The chart of a run's stages, so many pixels wide. Its numbers stand in the table of the lists too. */
-  function chart(query, stages, width) {
-    const lines = linesOf(query);
-    const scales = scalesOf(stages, lines, width);
-    const ends = lines.map((line) => `${line.title} ${grouped(line.of(stages.at(-1)) ?? "none")}`).join(", ");
-    const label = `By depth, from ${grouped(scales.first)} to ${grouped(scales.last)}. At the end: ${ends}.`;
-    const attributes = { class: "chart", width, height: HEIGHT, role: "img", "aria-label": label };
-    const svg = shape("svg", attributes, axes(scales), lines.flatMap((line) => drawn(line, stages, scales)));
+  /** The chart of a run, so many pixels wide, in its own frame or another. Its numbers stand in the table of the lists too. */
+  function chart(query, study, width, frame = frameOf([[query, study]])) {
+    const lines = linesOf(query, study);
+    const scales = scalesOf(frame, width);
+    const ends = lines.map((line) => `${line.title} ${line.values.length === 0 ? "none" : grouped(line.values.at(-1).value)}`).join(", ");
+    const label = `By depth, from 1 to ${grouped(study.depth)}. At the end: ${ends}.`;
+    const attributes = { class: "chart", width, height: HEIGHT, viewBox: `0 0 ${width} ${HEIGHT}`, role: "img", "aria-label": label };
+    const svg = shape("svg", attributes, axes(scales), stopMark(study.depth, scales), lines.flatMap((line) => drawn(line, scales)));
     return element("figure", {}, legend(lines), svg);
   }
 
-  return { chart, roundValues };
+  return { chart, frameOf, roundValues };
 })();

@@ -28,5 +28,30 @@ const TopkElements = (() => {
   /** A count with its noun, as `1 row` or `2 rows`. */
   const counted = (number, noun, nouns = `${noun}s`) => `${grouped(number)} ${BigInt(number) === 1n ? noun : nouns}`;
 
-  return { element, shape, grouped, share, percent, counted };
+  /** A text for those alone who hear the page. */
+  const hidden = (text) => element("span", { class: "hidden" }, text);
+
+  /** An object as the page shows it: by its name, where a file of keys gave it one, else by its number. */
+  function objectIn(name, object, names) {
+    const key = names.get(object);
+    return key === undefined ? element(name, {}, object) : element(name, { class: "key", title: `object ${object}` }, element("bdi", {}, key));
+  }
+
+  /** An object in a sentence. */
+  const objectText = (object, names) => (names.has(object) ? `${names.get(object)} (object ${object})` : `object ${object}`);
+
+  /** A table that may be wider than the page, or where it has no room, its cells as blocks. */
+  function scrolling(label, table, isBlocks) {
+    const attributes = { class: isBlocks ? "scroll blocks" : "scroll", tabindex: "0", role: "region", "aria-label": label };
+    return element("div", attributes, table);
+  }
+
+  /** Parts of a table that keep their meaning where a narrow page draws them as blocks. */
+  const ROLES = { table: "table", thead: "rowgroup", tbody: "rowgroup", tr: "row", td: "cell" };
+  function tabular(name, attributes = {}, ...children) {
+    const role = name === "th" ? (attributes.scope === "row" ? "rowheader" : "columnheader") : ROLES[name];
+    return element(name, { role, ...attributes }, ...children);
+  }
+
+  return { element, shape, grouped, share, percent, counted, hidden, objectIn, objectText, scrolling, tabular };
 })();

@@ -1,83 +1,167 @@
 "use strict";
 
-/** The page: takes a text, lists its outcomes, and shows the picked one. A fragment `#text=..&pick=2` does the same. */
+/** The page: takes texts and files, lists their outcomes, and draws the picked ones. A fragment `#text=..&pick=2&beside=3` does the same. */
 (() => {
-  const { element, counted } = TopkElements;
-  const named = (id) => document.getElementById(id);
-  const [source, text, file, example] = ["source", "text", "file", "example"].map(named);
-  const [status, choice, pick, picture] = ["status", "choice", "pick", "picture"].map(named);
+  const { element, grouped, counted } = TopkElements;
+  const IDS = ["source", "text", "file", "keys", "pasted", "example", "pair", "doing", "progress", "status", "choice", "pick", "beside", "picture"];
+  const part = Object.fromEntries(IDS.map((id) => [id, document.getElementById(id)]));
+  const WIDTHS = { least: 300, greatest: 1100, gap: 32, beside: 900 };
+  const KEYS = "object,key";
+  /** So many outcomes can be picked. */
+  const MOST_PICKED = 400;
 
-  const EXAMPLE = `certificate 1
-query top 1 by sum(A,B) using ta
-count 3
-answer 2 1500 1500
-stop depth 2 sorted 4 random 3 cost 7
-s A 1 900
-s B 2 700
-r B 1 500
-r A 2 800
-s A 2 800
-s B 3 600
-r A 3 100
-end
-`;
+  const state = { outcomes: [], names: new Map(), said: "", jobs: { outcomes: 0, keys: 0, drawing: 0 } };
 
-  const WIDTHS = { least: 300, greatest: 840 };
-
-  let outcomes = [];
+  /** Begins a job of a kind, and answers whether it is still the last one of its kind. */
+  function begin(kind) {
+    state.jobs[kind] += 1;
+    const own = state.jobs[kind];
+    return () => own === state.jobs[kind];
+  }
 
   /** An outcome in the list to pick from. */
   function titleOf(outcome) {
-    if (outcome.kind === "fault") return `no certificate, at line ${outcome.at} of the text`;
-    if (outcome.kind === "refusal") return outcome.text;
-    return `certificate ${outcome.line}: ${outcome.query.line}`;
+    const of = outcome.file === undefined ? "" : `${outcome.file}, `;
+    if (outcome.kind === "fault") return `${of}no certificate, at line ${outcome.at} of the text`;
+    if (outcome.kind === "refusal") return of + outcome.text;
+    return `${of}certificate ${outcome.line}: ${outcome.query.line}`;
   }
 
-  function statusOf() {
-    if (outcomes.length === 0) return "There is no certificate in an empty text.";
+  function statusOf({ outcomes, names, said }) {
     const number = (kind) => outcomes.filter((outcome) => outcome.kind === kind).length;
     const parts = [
       [number("certificate"), (many) => counted(many, "certificate")],
       [number("refusal"), (many) => counted(many, "refusal")],
       [number("fault"), (many) => `${counted(many, "text")} that can't be read`],
     ];
-    return `${parts.filter(([many]) => many > 0).map(([many, said]) => said(many)).join(", ")}.`;
+    const found = parts.filter(([many]) => many > 0).map(([many, words]) => words(many)).join(", ");
+    const sentences = [outcomes.length === 0 ? "There is no certificate in an empty text." : `${found}.`];
+    if (outcomes.length > MOST_PICKED) sentences.push(`The first ${grouped(MOST_PICKED)} can be picked.`);
+    if (names.size > 0) sentences.push(`${counted(names.size, "object")} with names.`);
+    return [...sentences, said].filter((sentence) => sentence !== "").join(" ");
   }
 
-  function show() {
-    const outcome = outcomes[Number(pick.value)];
-    const width = Math.min(WIDTHS.greatest, Math.max(WIDTHS.least, picture.clientWidth));
-    picture.replaceChildren(...(outcome === undefined ? [] : [TopkPicture.picture(outcome, width)]));
+  /** Shows how far some work has come; a share of 1 hides the bar. */
+  function tell(what, share) {
+    const isDone = share >= 1;
+    for (const one of [part.doing, part.progress]) one.hidden = isDone;
+    part.doing.textContent = what;
+    part.progress.value = share;
+    part.picture.setAttribute("aria-busy", String(!isDone));
   }
 
-  function take(written, place = 0) {
-    outcomes = TopkCertificate.readOutcomes(written);
-    status.textContent = statusOf();
-    choice.hidden = outcomes.length < 2;
-    pick.replaceChildren(...outcomes.map((outcome, at) => element("option", { value: at }, titleOf(outcome))));
-    pick.selectedIndex = Math.min(Math.max(0, place), outcomes.length - 1);
-    show();
+  /** The width of a chart, of one picture or of one of two beside each other. */
+  function chartWidth(isPair) {
+    const whole = part.picture.clientWidth;
+    const own = isPair && whole >= WIDTHS.beside ? Math.floor((whole - WIDTHS.gap) / 2) : whole;
+    return Math.min(WIDTHS.greatest, Math.max(WIDTHS.least, own));
   }
 
-  function takeText(written, place) {
-    text.value = written;
-    take(written, place);
+  function pictureOf(first, second) {
+    const width = chartWidth(second !== undefined);
+    return second === undefined ? TopkPicture.drawing(first, width, state.names) : TopkCompare.drawing([first, second], width, state.names);
+  }
+
+  /** Draws the picked outcomes, in slices; what is drawn before that is given up. */
+  async function show() {
+    const isWanted = begin("drawing");
+    const first = state.outcomes[Number(part.pick.value)];
+    const second = part.beside.value === "" ? undefined : state.outcomes[Number(part.beside.value)];
+    const drawn = first === undefined ? "" : await TopkSlices.run(pictureOf(first, second), (share) => tell("Drawing", share), isWanted);
+    if (!isWanted()) return;
+    part.picture.replaceChildren(drawn);
+    tell("", 1);
+  }
+
+  /** Lists outcomes to pick from, and draws the ones at these places. */
+  function offer(outcomes, pick, beside) {
+    state.outcomes = outcomes;
+    part.status.textContent = statusOf(state);
+    part.choice.hidden = outcomes.length < 2;
+    const titles = outcomes.slice(0, MOST_PICKED).map(titleOf);
+    const options = () => titles.map((title, at) => element("option", { value: at }, title));
+    part.pick.replaceChildren(...options());
+    part.beside.replaceChildren(element("option", { value: "" }, "nothing"), ...options());
+    part.pick.selectedIndex = Math.min(Math.max(0, pick), titles.length - 1);
+    part.beside.selectedIndex = beside >= 0 && beside < titles.length ? beside + 1 : 0;
+    return show();
+  }
+
+  /** Reads texts and files in slices with a reader each; null where others of their kind are read meanwhile. */
+  async function readAll(kind, sources, makeReader) {
+    const [isWanted, results] = [begin(kind), []];
+    tell("Reading", 0);
+    for (const [place, source] of sources.entries()) {
+      const said = (share) => tell("Reading", Math.min(0.999, (place + share) / sources.length));
+      results.push(await TopkSlices.read(source, makeReader(), said, isWanted));
+      if (!isWanted()) return null;
+    }
+    return results;
+  }
+
+  /** Reads the outcomes of texts or files, and draws the picked ones. A file that can't be read is said to be so. */
+  async function take(sources, pick = 0, beside = -1) {
+    state.said = "";
+    try {
+      const read = await readAll("outcomes", sources, () => new TopkCertificate.OutcomeReader());
+      if (read === null) return;
+      const named = (outcome, place) => (sources.length < 2 ? outcome : { ...outcome, file: sources[place].name });
+      await offer(read.flatMap((outcomes, place) => outcomes.map((outcome) => named(outcome, place))), pick, beside);
+    } catch (error) {
+      tell("", 1);
+      part.status.textContent = `It can't be read: ${error.message}`;
+    }
+  }
+
+  async function takeKeys(file) {
+    const read = await readAll("keys", [file], () => new TopkKeys.KeyReader());
+    if (read === null) return;
+    const [{ names, wrong }] = read;
+    state.said = wrong === null ? "" : wrong;
+    state.names = wrong === null ? names : new Map();
+    part.status.textContent = statusOf(state);
+    await show();
+  }
+
+  function takeText(written, pick, beside) {
+    part.text.value = written;
+    return take([written], pick, beside);
+  }
+
+  /** Files are read where they stand, and never put into the text field. One that begins as keys do has names, wherever it was given. */
+  async function takeFiles(given) {
+    const files = [];
+    for (const file of given) {
+      const isKeys = (await file.slice(0, KEYS.length).text()) === KEYS;
+      if (isKeys) await takeKeys(file);
+      else files.push(file);
+    }
+    if (files.length === 0) return;
+    part.text.value = "";
+    part.pasted.open = false;
+    await take(files);
   }
 
   function takeFragment() {
     const given = new URLSearchParams(location.hash.slice(1));
-    if (given.has("text")) takeText(given.get("text"), Number(given.get("pick") ?? 1) - 1 || 0);
+    const place = (name) => Number(given.get(name) ?? 0) - 1 || 0;
+    if (given.has("text")) takeText(given.get("text"), place("pick"), given.has("beside") ? place("beside") : -1);
   }
 
-  source.addEventListener("submit", (event) => {
+  part.source.addEventListener("submit", (event) => {
     event.preventDefault();
-    take(text.value);
+    take([part.text.value]);
   });
-  example.addEventListener("click", () => takeText(EXAMPLE));
-  file.addEventListener("change", async () => {
-    if (file.files.length > 0) takeText(await file.files[0].text());
+  part.example.addEventListener("click", () => takeText(TopkExamples.one));
+  part.pair.addEventListener("click", () => takeText(TopkExamples.two, 0, 1));
+  part.file.addEventListener("change", () => takeFiles(part.file.files));
+  part.keys.addEventListener("change", () => part.keys.files.length > 0 && takeKeys(part.keys.files[0]));
+  for (const select of [part.pick, part.beside]) select.addEventListener("change", show);
+  addEventListener("dragover", (event) => event.preventDefault());
+  addEventListener("drop", (event) => {
+    event.preventDefault();
+    takeFiles(event.dataTransfer.files);
   });
-  pick.addEventListener("change", show);
   let drawnWidth = innerWidth;
   addEventListener("resize", () => {
     // On phones the height alone changes while one scrolls.

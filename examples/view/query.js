@@ -1,9 +1,6 @@
 "use strict";
 
-/**
- * Query lines of topk: an expression over lists, and its value at a list of grades.
- * Values are BigInt throughout, since a weighted sum may pass 2^53.
- */
+/** Query lines of topk: an expression over lists, and its value at a list of grades. */
 const TopkQuery = (() => {
   const MAX_DEPTH = 8;
   const MAX_LISTS = 8;
@@ -33,7 +30,7 @@ const TopkQuery = (() => {
 
   const least = (values) => values.reduce((one, other) => (other < one ? other : one));
   const greatest = (values) => values.reduce((one, other) => (other > one ? other : one));
-  const total = (values) => values.reduce((one, other) => one + other, 0n);
+  const total = (values) => values.reduce((one, other) => one + other);
 
   /** The lower one of the two middle values, where their number is even. */
   function median(values) {
@@ -133,7 +130,35 @@ const TopkQuery = (() => {
     return OPERATORS[node.operator](node.terms.map((term) => term.weight * value(term.node, grades)));
   }
 
-  return { ALGORITHMS, BY_THRESHOLD, BY_BOUNDS, GUARANTEED, read, value };
+  /** Whether no part of an expression passes 2^53 while no grade is above this one. */
+  function isSmall(node, grade) {
+    if (node.operator === undefined) return true;
+    const greatest = (term) => term.weight * value(term.node, Array(MAX_LISTS).fill(grade));
+    const sum = total(node.terms.map(greatest));
+    return sum <= BigInt(Number.MAX_SAFE_INTEGER) && node.terms.every((term) => isSmall(term.node, grade));
+  }
+
+  /** What `value` does, with its numbers made by `numbers`, as a function of grades alone. Weights stand in sums alone. */
+  function compiled(node, numbers) {
+    const { list, operator } = node;
+    if (operator === undefined) return numbers === Number ? (grades) => grades[list] : (grades) => numbers(grades[list]);
+    const weights = node.terms.map((term) => numbers(term.weight));
+    const parts = node.terms.map((term) => compiled(term.node, numbers));
+    if (OPERATORS[operator] !== total) return (grades) => OPERATORS[operator](parts.map((part) => part(grades)));
+    return (grades) => {
+      let sum = numbers(0);
+      for (let place = 0; place < parts.length; place += 1) sum += weights[place] * parts[place](grades);
+      return sum;
+    };
+  }
+
+  /**
+   * The value of an expression as a function of grades, which are Numbers up to the greatest grade.
+   * Values are Numbers too, where none can pass 2^53, which is many times quicker, and else BigInt; both compare alike.
+   */
+  const valuer = (expression, greatestGrade) => compiled(expression, isSmall(expression, BigInt(greatestGrade)) ? Number : BigInt);
+
+  return { ALGORITHMS, BY_THRESHOLD, BY_BOUNDS, GUARANTEED, read, value, valuer };
 })();
 
 if (typeof module === "object") module.exports = TopkQuery;

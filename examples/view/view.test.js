@@ -9,6 +9,7 @@ const Query = require("./query.js");
 const Certificate = require("./certificate.js");
 const Course = require("./course.js");
 const Refusals = require("./sentences.js");
+const Examples = require("./examples.js");
 
 const ROOT = path.join(__dirname, "..", "..");
 const CRATES = path.join(ROOT, "crates");
@@ -55,7 +56,7 @@ test("a certificate is read line by line", () => {
   assert.deepEqual([kind, line, count, query.k, query.algorithm, query.names], ["certificate", 1, 3, 1, "ta", ["A", "B"]]);
   assert.deepEqual(answers, [{ object: 2, low: 1500n, high: 1500n }]);
   assert.deepEqual(stop, { depth: 2, sorted: 4, random: 3, cost: 7n });
-  assert.deepEqual(accesses[2], { kind: "random", list: 1, object: 1, grade: 500 });
+  assert.deepEqual(accesses.get(2), { kind: "random", list: 1, object: 1, grade: 500 });
   assert.equal(accesses.length, 7);
 });
 
@@ -65,7 +66,8 @@ test("the threshold falls until the k-th aggregate meets it", () => {
   assert.deepEqual(stages.map((stage) => stage.bottoms), [[900n, 700n], [800n, 600n]]);
   assert.deepEqual(stages.map((stage) => stage.threshold), [1600n, 1400n]);
   assert.deepEqual(stages.map((stage) => stage.kthLow), [1500n, 1500n]);
-  assert.deepEqual(stages.map((stage) => stage.random.map((access) => access.object)), [[1, 2], [3]]);
+  assert.deepEqual(stages.map((stage) => stage.asked.map(({ count, first }) => [count, first.map((access) => access.object)])), [
+    [[1, [2]], [1, [1]]], [[1, [3]], [0, []]]]);
   assert.deepEqual(stages[1].rows.map((row) => [row.object, row.grade]), [[2, 800], [3, 600]]);
 });
 
@@ -316,34 +318,11 @@ function writtenInCases() {
 test("the examples of the program are read whole, and their figures are those of their accesses", () => {
   const data = fs.readdirSync(path.join(CRATES, "examples", "data")).filter((name) => name.endsWith(".text"));
   const written = [read("topk", "stdout"), ...data.map((name) => read("examples", "data", name)), ...writtenInCases()];
-  const texts = written.filter((text) => /^(certificate|refused) /.test(text));
+  const texts = [...written, Examples.two].filter((text) => /^(certificate|refused) /.test(text));
   assert.ok(texts.length > 10);
   for (const outcome of texts.flatMap((text) => Certificate.readOutcomes(text))) {
     assert.notEqual(outcome.kind, "fault", outcome.found);
     if (outcome.kind === "refusal") assert.doesNotMatch(Refusals.meaning(outcome.name, outcome.fields), /the line names/);
     if (outcome.kind === "certificate") assert.deepEqual(Course.figures(outcome).differences, []);
-  }
-});
-
-test("of many depths some are shown, the first and the last among them", () => {
-  assert.deepEqual(Course.chosenDepths(3, 200), [1, 2, 3]);
-  assert.deepEqual(Course.chosenDepths(9, 3), [1, 5, 9]);
-  assert.deepEqual(Course.chosenDepths(0, 3), []);
-});
-
-test("texts stand out from their ground", () => {
-  const style = fs.readFileSync(path.join(__dirname, "style.css"), "utf8");
-  const colour = (name) => style.match(new RegExp(`--${name}: #([0-9a-f]{6});`))[1];
-  const linear = (part) => (part <= 0.04045 ? part / 12.92 : ((part + 0.055) / 1.055) ** 2.4);
-  // The relative luminance and the contrast of WCAG 2.
-  const part = (name, at) => linear(parseInt(colour(name).slice(2 * at, 2 * at + 2), 16) / 255);
-  const luminance = (name) => [0.2126, 0.7152, 0.0722].reduce((sum, weight, at) => sum + weight * part(name, at), 0);
-  const contrast = (one, other) => (Math.max(luminance(one), luminance(other)) + 0.05) / (Math.min(luminance(one), luminance(other)) + 0.05);
-  for (const [text, ground] of [["ink", "paper"], ["muted", "paper"], ["random", "paper"], ["fault", "paper"], ["ink", "row"]]) {
-    assert.ok(contrast(text, ground) >= 4.5, `${text} on ${ground}: ${contrast(text, ground)}`);
-  }
-  const bars = [["low", "track"], ["threshold", "paper"], ["low", "paper"], ["rival", "paper"], ["random", "paper"], ["low", "open"]];
-  for (const [bar, ground] of bars) {
-    assert.ok(contrast(bar, ground) >= 3, `${bar} on ${ground}: ${contrast(bar, ground)}`);
   }
 });
