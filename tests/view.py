@@ -398,22 +398,25 @@ def drawn_long(page, file, width, colours):
     return wrong
 
 
+# The screens on which a long certificate of an algorithm is drawn: widths and colours.
+SCREENS = {"fa": [(360, "dark"), (1280, "light")], "ta": [(360, "light"), (1280, "dark")],
+           "nra": [(360, "light"), (360, "dark"), (1280, "light"), (1280, "dark")]}
+
+
 def view_of_long_certificates(program):
-    """A certificate of 4 MB is drawn in 2 s, with at most 5,000 elements and nothing cut off, on narrow and wide screens, dark and light; meanwhile the page answers."""
-    with scratch() as place:
-        for algorithm in ("fa", "ta", "nra"):
+    """A certificate of 4 MB is drawn in 2 s, of at most 5,000 elements, with nothing cut off, on narrow and wide screens, dark and light; the page answers meanwhile."""
+    with scratch() as place, browser() as page:
+        for algorithm, screens in SCREENS.items():
             file = long_certificate(program, algorithm, place)
             if file.stat().st_size < 4_000_000:
                 return f"{file.name} has {file.stat().st_size} bytes alone"
-            with browser() as page:
-                for width in (360, 1280):
-                    for colours in ("light", "dark"):
-                        # The best of three, since other programs of the machine take the processor now and then.
-                        wrong = [drawn_long(page, file, width, colours)]
-                        while wrong[-1] is not None and " ms " in wrong[-1] and len(wrong) < 3:
-                            wrong.append(drawn_long(page, file, width, colours))
-                        if wrong[-1] is not None:
-                            return wrong[-1]
+            for width, colours in screens:
+                # The best of three, since other programs of the machine take the processor now and then.
+                wrong = [drawn_long(page, file, width, colours)]
+                while wrong[-1] is not None and " ms " in wrong[-1] and len(wrong) < 3:
+                    wrong.append(drawn_long(page, file, width, colours))
+                if wrong[-1] is not None:
+                    return wrong[-1]
     return None
 
 
