@@ -185,7 +185,7 @@ def high_pipe():
 def begun(program, hears, says, place):
     """A browser that is told at `hears` what to do, and tells at `says`; it keeps what it writes in a folder."""
     own = dict(os.environ, HOME=place, XDG_CONFIG_HOME=place, XDG_CACHE_HOME=place, XDG_RUNTIME_DIR=place)
-    words = [program, "--headless", "--no-sandbox", "--disable-gpu", "--disable-dev-shm-usage", "--disable-crash-reporter", "--no-first-run",
+    words = [program, "--headless", "--no-sandbox", "--disable-gpu", "--disable-dev-shm-usage", "--disable-crash-reporter", "--no-first-run", "--disable-renderer-backgrounding", "--disable-background-timer-throttling",
              f"--user-data-dir={place}", "--remote-debugging-pipe", "about:blank"]
     nothing = {"stdin": subprocess.DEVNULL, "stdout": subprocess.DEVNULL, "stderr": subprocess.DEVNULL}
     return subprocess.Popen([sys.executable, "-c", AT_3_AND_4, str(hears), str(says), *words], pass_fds=(hears, says), env=own,

@@ -114,7 +114,7 @@ const TopkLists = (() => {
     body.append(unreadRow(certificate, figures));
     const some = stages.length < depth ? ` Of ${grouped(depth)} depths, ${grouped(stages.length)} are drawn.` : "";
     const caption = element("caption", {}, `A row: an object and its grade. ◆ random access. ★ in the answer.${some}`);
-    const table = tabular("table", { style: `--label: ${drawing.label}ch` }, caption, headOf(certificate, figures), body);
+    const table = tabular("table", { style: `--label: ${drawing.label}ch; --columns: ${query.names.length}` }, caption, headOf(certificate, figures), body);
     const isBlocks = width < ROOM.depth + ROOM.list * query.names.length;
     const title = element("h2", {}, "The lists, as far as they were read");
     return element("section", { class: "lists" }, title, scrolling("Lists, depth by depth", table, isBlocks));
