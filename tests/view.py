@@ -193,8 +193,8 @@ def begun(program, hears, says, place):
     """A browser that is told at `hears` what to do, and tells at `says`; it keeps what it writes in a folder."""
     own = dict(os.environ, HOME=place, XDG_CONFIG_HOME=place, XDG_CACHE_HOME=place, XDG_RUNTIME_DIR=place)
     words = [program, "--headless", "--no-sandbox", "--disable-gpu", "--disable-dev-shm-usage",
-             "--disable-crash-reporter", "--no-first-run", "--disable-renderer-backgrounding", "--disable-background-timer-throttling",
-             f"--user-data-dir={place}", "--remote-debugging-pipe", "about:blank"]
+             "--disable-crash-reporter", "--no-first-run", "--disable-renderer-backgrounding",
+             "--disable-background-timer-throttling", f"--user-data-dir={place}", "--remote-debugging-pipe", "about:blank"]
     nothing = {"stdin": subprocess.DEVNULL, "stdout": subprocess.DEVNULL, "stderr": subprocess.DEVNULL}
     start = [sys.executable, "-c", AT_3_AND_4, str(hears), str(says)]
     return subprocess.Popen([*start, *words], pass_fds=(hears, says), env=own, start_new_session=True, **nothing)
@@ -459,7 +459,7 @@ PLACES = """["article", ".course svg[role=img]"].map((name) => [...document.quer
 
 
 def view_of_two(program):
-    """`ta` and `nra` over the same lists stand side by side, with what each took; where it is narrow one over the other."""
+    """`ta` and `nra` over the same lists stand side by side, with what each took; on a narrow screen one over another."""
     bundle = (BUNDLES / "two_lists.bundle").read_text(encoding="utf-8")
     both = "".join(answered(program, bundle.replace("using ta", f"using {it}").encode()) for it in ("ta", "nra"))
     with browser() as page:
