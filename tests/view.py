@@ -194,7 +194,8 @@ def begun(program, hears, says, place):
     own = dict(os.environ, HOME=place, XDG_CONFIG_HOME=place, XDG_CACHE_HOME=place, XDG_RUNTIME_DIR=place)
     words = [program, "--headless", "--no-sandbox", "--disable-gpu", "--disable-dev-shm-usage",
              "--disable-crash-reporter", "--no-first-run", "--disable-renderer-backgrounding",
-             "--disable-background-timer-throttling", f"--user-data-dir={place}", "--remote-debugging-pipe", "about:blank"]
+             "--disable-background-timer-throttling", f"--user-data-dir={place}", "--remote-debugging-pipe",
+             "about:blank"]
     nothing = {"stdin": subprocess.DEVNULL, "stdout": subprocess.DEVNULL, "stderr": subprocess.DEVNULL}
     start = [sys.executable, "-c", AT_3_AND_4, str(hears), str(says)]
     return subprocess.Popen([*start, *words], pass_fds=(hears, says), env=own, start_new_session=True, **nothing)
@@ -379,8 +380,9 @@ NOTES = """(() => {
   }).observe(picture, { attributes: true });
 })()"""
 
-# What of the page is wider than its place.
-CUT_OFF = """[document.documentElement, ...document.querySelectorAll(".scroll")]
+# How many parts of the page are wider than their places; a long name is, and ends in dots.
+CUT_OFF = """["html", ".scroll", ".scroll td", ".scroll tbody th:not(.named)"]
+  .flatMap((names) => [...document.querySelectorAll(names)])
   .filter((it) => it.scrollWidth > it.clientWidth).length"""
 
 
@@ -459,7 +461,7 @@ PLACES = """["article", ".course svg[role=img]"].map((name) => [...document.quer
 
 
 def view_of_two(program):
-    """`ta` and `nra` over the same lists stand side by side, with what each took; on a narrow screen one over another."""
+    """`ta` and `nra` over the same lists stand side by side, with what each took, where it is narrow in one column."""
     bundle = (BUNDLES / "two_lists.bundle").read_text(encoding="utf-8")
     both = "".join(answered(program, bundle.replace("using ta", f"using {it}").encode()) for it in ("ta", "nra"))
     with browser() as page:
@@ -517,6 +519,27 @@ STOPS = ["file", "keys", "summary", "text", "button", "example", "pair", "pick",
          "Answers with their bounds", "Lists, depth by depth", "Answers with their bounds", "Lists, depth by depth"]
 
 
+def view_of_great_numbers(program):
+    """Numbers of sixteen digits are drawn whole on a narrow screen, and long names end in dots."""
+    bundle = (BUNDLES / "two_lists.bundle").read_text(encoding="utf-8")
+    query = "top 1 by wsum(9000000000000*A,7*B) using nra"
+    written = answered(program, f"{bundle[:bundle.index('query')]}query {query}\n".encode())
+    with scratch() as place, browser() as page:
+        keys = pathlib.Path(place) / "keys.csv"
+        keys.write_text(f"object,key\n1,{'a long name ' * 9}\n2,{'x' * 90}\n", encoding="utf-8")
+        page.open(360, text=written)
+        cut = [page.value(CUT_OFF)]
+        page.choose("keys", keys)
+        cut.append(page.value(CUT_OFF))
+        shown = page.shown()
+    answers = next(shown.all(class_="answers"))
+    return first_difference([
+        ("numbers", answers.texts("td", class_="number"), ["8,100,000,000,000,000", "8,100,000,000,004,200"]),
+        ("cut off, with numbers and with names", cut, [0, 0]),
+        ("console", page.faults(), []),
+    ])
+
+
 def view_by_keyboard(_):
     """Each control and each table is reached by Tab, in the order of the page, and shows it.
 
@@ -551,5 +574,6 @@ def view_by_keyboard(_):
 def tests():
     """Each test with its name."""
     for test in (view_logic, view_of_an_answer, view_of_an_open_answer, view_of_a_guarantee, view_of_several,
-                 view_is_labelled, view_of_long_certificates, view_of_two, view_of_names, view_by_keyboard):
+                 view_is_labelled, view_of_long_certificates, view_of_two, view_of_names, view_of_great_numbers,
+                 view_by_keyboard):
         yield test.__name__, test

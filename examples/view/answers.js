@@ -5,6 +5,8 @@ const TopkAnswers = (() => {
   const { element, grouped, percent, counted, objectIn, objectText, scrolling, tabular } = TopkElements;
   /** Of so many answers the first and the last ones are drawn where there are more. */
   const LAST = 5;
+  /** Numbers of more characters stand one under another where there is little room. */
+  const LONG = 12;
   /** So many pixels are room enough for a table. */
   const ROOM = 480;
 
@@ -71,7 +73,8 @@ const TopkAnswers = (() => {
     const bar = tabular("td", { class: "bounds", "aria-hidden": "true" }, line);
     const head = tabular("tr", {}, column("object", isNamed ? "named" : "number"), bar, column("least"), column("greatest"));
     const rows = rowsOf(items, most, (item) => answerRow(item, scale, figures.rival, names));
-    const table = tabular("table", {}, tabular("thead", {}, head), tabular("tbody", {}, rows));
+    const columns = grouped(scale).length > LONG ? 1 : 2;
+    const table = tabular("table", { style: `--columns: ${columns}` }, tabular("thead", {}, head), tabular("tbody", {}, rows));
     const title = element("h2", {}, items.length === 1 ? "The answer" : `The ${counted(items.length, "answer")}`);
     const promise = guarantee === null ? null : element("p", { "data-figure": "guarantee" }, guaranteeText(guarantee));
     const said = element("p", { class: "note" }, verdict(figures, certificate, names));

@@ -59,9 +59,12 @@ const TopkCompare = (() => {
 
   function table(runs, names, width) {
     const column = (title) => tabular("th", { scope: "col" }, title);
+    const rows = measures(runs);
+    const longest = Math.max(...rows.flatMap(({ numbers }) => numbers.map((number) => grouped(number).length)));
     const head = tabular("thead", {}, tabular("tr", {}, tabular("td"), names.map(column)));
-    const body = tabular("tbody", {}, measures(runs).map((measure) => measureRow(measure, names)));
-    return scrolling("What both took", tabular("table", { class: "measures" }, head, body), width < ROOM);
+    const body = tabular("tbody", {}, rows.map((measure) => measureRow(measure, names)));
+    const attributes = { class: "measures", style: `--label: ${longest}ch` };
+    return scrolling("What both took", tabular("table", attributes, head, body), width < ROOM);
   }
 
   /** Two certificates: what both took, and their pictures, of which the charts are drawn alike. */
