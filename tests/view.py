@@ -484,8 +484,16 @@ def view_of_two(program):
     ])
 
 
+# Drops texts on the page, as files.
+DROP = """(texts) => {
+  const dataTransfer = new DataTransfer();
+  for (const text of texts) dataTransfer.items.add(new File([text], "dropped"));
+  document.body.dispatchEvent(new DragEvent("drop", { dataTransfer, bubbles: true, cancelable: true }));
+}"""
+
+
 def view_of_names(program):
-    """A file of keys gives objects their names; one that is none is told, and the numbers stay."""
+    """A file of keys gives objects their names, chosen or dropped; one that is none is told, and the numbers stay."""
     written = answered(program, (BUNDLES / "two_lists.bundle").read_bytes())
     with scratch() as place, browser() as page:
         keys, none = pathlib.Path(place) / "keys.csv", pathlib.Path(place) / "none.csv"
@@ -496,9 +504,12 @@ def view_of_names(program):
         named = page.shown()
         page.choose("keys", none)
         numbered = page.shown()
-    heads = [list(next(it.all(class_="answers")).texts("th", scope="row")) for it in (named, numbered)]
+        page.value(f"({DROP})({json.dumps([keys.read_text(encoding='utf-8'), written])})")
+        page.wait("document.querySelector('.answers .named bdi') !== null")
+        dropped = page.shown()
+    heads = [list(next(it.all(class_="answers")).texts("th", scope="row")) for it in (named, numbered, dropped)]
     return first_difference([
-        ("answers", heads, [['Bristol, "old" <i>house</i>'], ["2"]]),
+        ("answers", heads, [['Bristol, "old" <i>house</i>'], ["2"], ['Bristol, "old" <i>house</i>']]),
         ("rows", named.texts("div", class_="row")[:2], ["Astoria has 900", '★ Bristol, "old" <i>house</i> has 700']),
         ("status", named.texts("p", role="status"), ["1 certificate. 2 objects with names."]),
         ("status of none", numbered.texts("p", role="status"),

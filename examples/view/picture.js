@@ -20,8 +20,8 @@ const TopkPicture = (() => {
   }
 
   function refusal({ name, fields, text }) {
-    const { sentence, cure } = TopkRefusals.explained(name, fields);
-    return wrong("Refused: there is no answer.", ...withCode(`${sentence} ${cure} `), element("code", {}, text));
+    const { kind, sentence, cure } = TopkRefusals.explained(name, fields);
+    return wrong(`Refused: there is no ${kind === "judge" ? "verdict" : "answer"}.`, ...withCode(`${sentence} ${cure} `), element("code", {}, text));
   }
 
   /** The sums of a run, each with a line that explains it. */

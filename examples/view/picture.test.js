@@ -99,6 +99,7 @@ test("a list of random accesses alone is said to be one", () => {
 
 test("refusals and versions are said in words", () => {
   assert.match(draw("refused 2 BadTheta 7 8\n").text, /The factor 7\/8 is below 1\./);
+  assert.match(draw("refused Figure 5\n").text, /there is no verdict\. Line 5 states a figure/);
   assert.match(draw("refused node UnknownList A\n").text, /The catalog has no list A/);
   const versioned = answered("ta", FIRST_ROWS).replace("answer", "version A 7\nversion B 9\nanswer");
   assert.match(draw(versioned).text, /A is at version 7, B is at version 9\./);

@@ -44,13 +44,17 @@ test("a file is read in slices, and its progress told", async () => {
 
 test("long work yields to the page, and is given up where it isn't wanted", async () => {
   function* work() {
-    const until = performance.now() + 100;
-    while (performance.now() < until) yield 0.5;
+    // Each piece takes longer than a slice.
+    for (let piece = 0; piece < 4; piece += 1) {
+      const until = performance.now() + 30;
+      while (performance.now() < until);
+      yield piece / 4;
+    }
     return "done";
   }
   const shares = [];
   assert.equal(await Slices.run(work(), (share) => shares.push(share), () => true), "done");
-  assert.ok(shares.length >= 2);
+  assert.deepEqual(shares, [0, 0.25, 0.5, 0.75]);
   assert.equal(await Slices.run(work(), () => {}, () => false), null);
   assert.equal(Slices.drained(work()), "done");
 });

@@ -3,7 +3,7 @@
 /** What the lines `refused ..` of topk mean, in the sentences of refusals.js. */
 const TopkRefusals = (() => {
   const ENTRIES = typeof require === "function" ? require("./refusals.js") : REFUSALS;
-  const UNHEARD = { sentence: "topk gave no answer, for the reason that the line names.", cure: "" };
+  const UNHEARD = { kind: null, sentence: "topk gave no answer, for the reason that the line names.", cure: "" };
 
   /** The entry of a refusal, and the fields behind its key: a key may have two words, as `catalog SameName`. */
   function entryOf(name, fields) {
@@ -18,14 +18,14 @@ const TopkRefusals = (() => {
     return text.replace(/\{(\w+)\}/g, (whole, name) => fields[names.indexOf(name)] ?? whole);
   }
 
-  /** What a refusal means and what to do: a sentence and a cure. A plain sentence without a cure where its name isn't known. */
+  /** What a refusal means and what to do: its kind, a sentence and a cure. A plain sentence without a cure where its name isn't known. */
   function explained(name, fields) {
     const found = entryOf(name, fields);
     if (found === null) return UNHEARD;
     const { entry, rest } = found;
-    const kind = ENTRIES[`kind ${rest[entry.fields.indexOf("kind")]}`];
-    const sentence = filled(entry.sentence, entry.fields, rest);
-    return { sentence: kind === undefined ? sentence : `${sentence} ${kind.sentence}`, cure: filled(entry.cure, entry.fields, rest) };
+    const [sentence, cure] = [entry.sentence, entry.cure].map((text) => filled(text, entry.fields, rest));
+    const access = ENTRIES[`kind ${rest[entry.fields.indexOf("kind")]}`];
+    return { kind: entry.kind, sentence: access === undefined ? sentence : `${sentence} ${access.sentence}`, cure };
   }
 
   const meaning = (name, fields) => explained(name, fields).sentence;

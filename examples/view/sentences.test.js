@@ -66,7 +66,7 @@ test("each refusal stands in the manual page, and each line that the program is 
 
 test("sentences and cures have the fields of the line", () => {
   assert.deepEqual(Refusals.explained("KAboveCount", ["5", "3"]), {
-    sentence: "The query asks for 5 objects, and the lists have 3.", cure: "Ask for at most 3." });
+    kind: "query", sentence: "The query asks for 5 objects, and the lists have 3.", cure: "Ask for at most 3." });
   assert.match(Refusals.meaning("catalog", ["SameName", "4"]), /its record 4 has the name of a list above it/);
   assert.match(Refusals.meaning("Inconsistent", ["5", "6"]), /up to number 5, the first such\. The access gives its object another grade/);
   assert.match(Refusals.meaning("words", []), /no command/);
