@@ -74,14 +74,21 @@ const EXPRESSIONS = ["sum(L0,L1,L2)", "min(L0,L1,L2)", "max(L0,L1,L2)", "median(
 
 test("threshold, k-th low, the greatest high of others and the stop are those of the definitions, at each depth", () => {
   for (const [number, expression] of EXPRESSIONS.entries()) {
-    for (const [seed, k, asks, most] of [[7, 1, 0, 1000], [8, 3, 2, 5], [9, 5, 0, 3], [10, 2, 1, 1000]]) {
+    for (let seed = 1; seed <= 24; seed += 1) {
+      const [k, asks, most] = [1 + (seed % 5), seed % 3, [2, 3, 5, 1000][seed % 4]];
       const query = `top ${k} by ${expression} using nra`;
-      const certificate = madeCertificate({ seed: seed + 20 * number, count: 14, lists: 3, query, depth: 14, asks, most });
+      const certificate = madeCertificate({ seed: seed + 100 * number, count: 14, lists: 3, query, depth: 14, asks, most });
       const { stages } = Course.course(certificate);
       const drawn = stages.map(({ depth, threshold, kthLow, rival, mayStop }) => ({ depth, threshold, kthLow, rival: rival?.high ?? null, isQuiet: mayStop }));
       assert.deepEqual(drawn, stages.map(({ depth }) => defined(certificate, depth)), query);
     }
   }
+});
+
+test("an object that random accesses alone have named may be above the first k", () => {
+  const head = "certificate 1\nquery top 1 by sum(A,B) using ca\ncount 2\nanswer 1 500 500\nstop depth 1 sorted 1 random 3 cost 4\n";
+  const { stages } = Course.course(Certificate.readOutcomes(`${head}s A 1 500\nr B 1 0\nr A 2 400\nr B 2 900\nend\n`)[0]);
+  assert.deepEqual(stages.map(({ kthLow, rival, mayStop }) => [kthLow, rival, mayStop]), [[500n, { object: 2, high: 1300n }, false]]);
 });
 
 test("of many depths the first ones, the last ones and each where the order turns are drawn", () => {

@@ -1,6 +1,6 @@
 "use strict";
 
-/** The lines of a text that comes in slices, of which one at a time is next. Lines that were read aren't kept, but for the last one. */
+/** The lines of a text that comes in slices, of which one at a time is next. Lines that were taken are kept until the next slice comes. */
 const TopkLines = (() => {
   const isBlank = (line) => line === "" || line === "\r";
 
@@ -8,7 +8,7 @@ const TopkLines = (() => {
     constructor() {
       this.ready = [];
       this.place = 0;
-      /** How many lines stood before the ready ones; what stands behind them; whether the text has ended. */
+      /** How many lines stood before the ready ones; what stands after them; whether the text has ended. */
       this.before = 0;
       this.rest = "";
       this.isEnded = false;
@@ -36,10 +36,9 @@ const TopkLines = (() => {
       let whole = this.isEnded ? parts.length : parts.length - 1;
       while (whole > 0 && isBlank(parts[whole - 1])) whole -= 1;
       this.rest = this.isEnded ? "" : parts.slice(whole).join("\n");
-      const kept = Math.max(0, this.place - 1);
-      this.ready = this.ready.slice(kept).concat(parts.slice(0, whole));
-      this.before += kept;
-      this.place -= kept;
+      this.ready = this.ready.slice(this.place).concat(parts.slice(0, whole));
+      this.before += this.place;
+      this.place = 0;
     }
 
     /** Waits, where no line is at hand, for slices: each is what a `yield` gives back. */
