@@ -170,6 +170,18 @@ class Browser:
         for kind in ("keyDown", "keyUp"):
             self.call("Input.dispatchKeyEvent", type=kind, key=key, code=key, windowsVirtualKeyCode=code, **text)
 
+    def processor_time(self):
+        """How many milliseconds the page's thread has had the processor."""
+        self.call("Performance.enable", timeDomain="threadTicks")
+        metrics = {it["name"]: it["value"] for it in self.call("Performance.getMetrics")["metrics"]}
+        return 1000 * metrics["TaskDuration"]
+
+    def slowness(self):
+        """How many times slower than an idle machine this one is now: by the clock, and by its processor's time."""
+        begun_at = self.processor_time()
+        took = self.value(WORK)
+        return took / IDLE, (self.processor_time() - begun_at) / IDLE
+
     def shown(self):
         """The page as the browser shows it."""
         return Reader(self.value("document.documentElement.outerHTML")).root
@@ -353,15 +365,16 @@ def view_is_labelled(_):
     ])
 
 
-# How many times longer than on an idle processor some work takes now that is like that of the page.
-SLOWNESS = """(() => {
+# Some work that is like that of the page: an idle processor does it in IDLE milliseconds. It comes to those it took.
+IDLE = 80
+WORK = """(() => {
   const began = performance.now();
   for (let turn = 0; turn < 5; turn += 1) {
     const seen = new Map();
     for (let at = 0; at < 40000; at += 1) seen.set(at, /^s ([a-z]+) ([0-9]+)$/.exec(`s list ${at}`)[2]);
   }
-  return (performance.now() - began) / IDLE;
-})()""".replace("IDLE", "80")
+  return performance.now() - began;
+})()"""
 
 # Notes of the page from when files are chosen until they are drawn: the milliseconds, the longest time in which it
 # answered nothing, and the shares that the bar of progress showed.
@@ -399,10 +412,11 @@ def drawn_long(page, file, width, colours):
     """What is wrong with the picture of a long certificate on a screen, or None."""
     page.open(width, colours)
     page.value(NOTES)
-    slow = page.value(SLOWNESS)
+    before = page.slowness()
+    begun_at = page.processor_time()
     page.choose("file", file)
-    slow = max(1, slow, page.value(SLOWNESS))
-    notes = page.value("notes")
+    notes = {**page.value("notes"), "processor": page.processor_time() - begun_at}
+    slow = [max(1, *both) for both in zip(before, page.slowness())]
     paper = page.value("getComputedStyle(document.body).backgroundColor")
     size = page.value("document.querySelectorAll('*').length")
     wrong = first_difference([
@@ -419,10 +433,13 @@ def drawn_long(page, file, width, colours):
 
 
 def too_slow(notes, slow):
-    """What took too long on a machine that is so many times slower than an idle one, or None."""
-    for what, took, most in (("drew it", notes["took"], 2000), ("answered nothing", notes["longest"], 300)):
-        if took > most * slow:
-            return f"{LATE}{what} for {took:.0f} ms in place of {most}, {slow:.1f} times slower than an idle machine"
+    """What took too long on a machine that is so many times slower, by the clock and by its processor, or None."""
+    by_clock, by_processor = slow
+    for what, took, most in (("drew it for", notes["took"], 2000 * by_clock),
+                             ("answered nothing for", notes["longest"], 300 * by_clock),
+                             ("took the processor for", notes["processor"], 2000 * by_processor)):
+        if took > most:
+            return f"{LATE}{what} {took:.0f} ms in place of {most:.0f}"
     return None
 
 
