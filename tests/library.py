@@ -1,8 +1,10 @@
-"""Tests of the library: the proved archive with the heap of c/heap.c as a shared library, called from this process and from python/topk.py."""
+"""Tests of the library: the proved archive with the heap of c/heap.c as a shared library, called from this process and from the package
+python/topk."""
 import array
 import ctypes
 import doctest
-import importlib.util
+import importlib
+import os
 import pathlib
 import random
 import re
@@ -112,14 +114,11 @@ def whole(call, given):
 
 
 def module():
-    """python/topk.py over the library that was built here."""
-    spec = importlib.util.spec_from_file_location("topk", REPOSITORY / "python" / "topk.py")
-    found = importlib.util.module_from_spec(spec)
-    sys.modules["topk"] = found
-    spec.loader.exec_module(found)
-    path = built("c/heap.c")
-    found._library_path = lambda: path
-    return found
+    """The package python/topk over the library that was built here."""
+    os.environ["TOPK_LIBRARY"] = built("c/heap.c")
+    if "topk" not in sys.modules:
+        sys.path.insert(0, str(REPOSITORY / "python"))
+    return importlib.import_module("topk")
 
 
 def made_bundle(count, lists, query):
@@ -334,8 +333,10 @@ int main(void) {{
 
 
 def python_doctests(program):
-    tried = doctest.testmod(module())
-    return None if tried.failed == 0 and tried.attempted > 0 else f"{tried.failed} of {tried.attempted} doctests fail"
+    found = [module(), *(importlib.import_module(f"topk.{path.stem}") for path in sorted((REPOSITORY / "python" / "topk").glob("[a-z]*.py")))]
+    tried = [doctest.testmod(it) for it in found]
+    failed, attempted = sum(it.failed for it in tried), sum(it.attempted for it in tried)
+    return None if failed == 0 and attempted > 0 else f"{failed} of {attempted} doctests fail"
 
 
 def python_page(program):
