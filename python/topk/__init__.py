@@ -34,6 +34,7 @@ from __future__ import annotations
 
 from topk._version import __version__
 from topk.answers import Disagrees, NamedAnswer, Rounding, Row
+from topk.catalogs import Catalog, Entry
 from topk.certificates import Access, Answer, Beaten, Certificate, Fixes, Ranked
 from topk.cores import Core, answer, answer_bundle, core, judge
 from topk.criteria import Criterion, criterion
@@ -46,7 +47,7 @@ from topk.scales import reciprocal_rank
 from topk.tables import RankedList, Table
 
 __all__ = [
-    "Access", "Answer", "Beaten", "Certificate", "Core", "Criterion", "Disagrees", "Fixes", "Library", "LimitPassed", "MAX_GRADE", "MAX_INPUT",
+    "Access", "Answer", "Beaten", "Catalog", "Certificate", "Core", "Criterion", "Disagrees", "Entry", "Fixes", "Library", "LimitPassed", "MAX_GRADE", "MAX_INPUT",
     "MAX_LISTS", "MAX_ROWS", "MissingValue", "NamedAnswer", "NoCore", "Program", "Ranked", "RankedList", "Refused", "Rounding", "Row", "Table",
     "TableError", "UnknownName", "__version__", "answer", "answer_bundle", "bundle_of", "core", "criterion", "judge", "ranked", "reciprocal_rank",
 ]

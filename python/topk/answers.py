@@ -4,7 +4,7 @@ from __future__ import annotations
 import dataclasses
 from collections.abc import Callable, Iterator, Mapping
 from fractions import Fraction
-from typing import Any
+from typing import Any, Optional
 
 from topk.certificates import Answer, Certificate, Verdict
 from topk.cores import Core
@@ -13,7 +13,11 @@ from topk.faults import TableError
 from topk.limits import MAX_GRADE
 from topk.questions import Question
 
-__all__ = ["Disagrees", "NamedAnswer", "Rounding", "Row", "Source", "named_answer"]
+__all__ = ["Disagrees", "NamedAnswer", "Rounding", "Row", "named_answer", "rounding_of"]
+
+GradeOf = Callable[[str, int], Optional[int]]
+"""The grade that a list has for an object; None where nobody knows, or there is none."""
+ValueOf = Callable[[str, int], Any]
 
 
 @dataclasses.dataclass(frozen=True)
@@ -25,11 +29,11 @@ class Row:
     key: Any
     """The row's key, as the table has it."""
     score: int
-    """The value of the question's expression over the grades, by its whole weights."""
+    """The value of the question's expression over the grades, by its whole weights. Where a grade isn't known, the least that is possible."""
     values: Mapping[str, Any]
     """What the table has for each criterion of the question, by the criterion's name; None where it is missing."""
-    grades: Mapping[str, int]
-    """The grade of each criterion of the question."""
+    grades: Mapping[str, int | None]
+    """The grade of each criterion of the question. Over list files alone it is None where the certificate hasn't it."""
     object: int
     """The number that stands for the key in the certificate."""
     low: int
@@ -78,15 +82,6 @@ class Disagrees:
 
 
 @dataclasses.dataclass(frozen=True)
-class Source:
-    """What an answer reads of the table that was asked: for each, a call of an object's number."""
-
-    key: Callable[[int], Any]
-    grade: Callable[[str, int], int]
-    value: Callable[[str, int], Any]
-
-
-@dataclasses.dataclass(frozen=True)
 class NamedAnswer:
     """The answer to a question over a table: its rows, best first, and the certificate that shows them.
 
@@ -107,7 +102,8 @@ class NamedAnswer:
     """The score of a row that is best by each criterion."""
     guarantee: tuple[int, int] | None
     """P and Q: Q times the score of a row outside is at most P times that of one inside. None where the answer is the best."""
-    rounding: Rounding
+    rounding: Rounding | None
+    """What the rounding of values may do to the order. None over list files, as nobody knows what their grades were made of."""
     depth: int
     """The deepest row that was read of a list."""
     sorted: int
@@ -119,7 +115,8 @@ class NamedAnswer:
     certificate: str
     """The evidence, as text: each access that was made, with the numbers of objects."""
     core: Core = dataclasses.field(compare=False, repr=False)
-    source: Source = dataclasses.field(compare=False, repr=False)
+    grade_of: GradeOf | None = dataclasses.field(compare=False, repr=False)
+    """What the table has; None over list files, where there is nothing beside the certificate."""
 
     def __len__(self) -> int:
         return len(self.rows)
@@ -140,29 +137,32 @@ class NamedAnswer:
 
         `Fixes()` says both: the answer is right on each table that agrees with the accesses, and this table does.
         """
-        for access in Certificate.parse(self.certificate).accesses():
-            try:
-                grade = self.source.grade(access.list, access.object)
-            except LookupError:
-                return Disagrees(access, None)
+        for access in Certificate.parse(self.certificate).accesses() if self.grade_of else ():
+            grade = self.grade_of(access.list, access.object) if self.grade_of else None
             if grade != access.grade:
                 return Disagrees(access, grade)
         return self.core.judge(self.certificate.encode())
 
 
-def named_answer(asked: Question, given: Answer, core: Core, source: Source, errors: Mapping[str, Fraction], outside: Mapping[str, int]) -> NamedAnswer:
-    """The core's answer to a question, with the names and values of the source."""
+def named_answer(asked: Question, given: Answer, core: Core, key_of: Callable[[int], Any], grade_of: GradeOf, value_of_object: ValueOf,
+                 rounding: Rounding | None = None) -> NamedAnswer:
+    """The core's answer to a question with keys, grades and values. Without a rounding the grades are those of the certificate alone."""
     names = names_in(asked.expression)
     rows = []
     for item, low, high in given.objects:
-        grades = {name: source.grade(name, item) for name in names}
-        score = value_of(asked.expression, grades)
+        grades = {name: grade_of(name, item) for name in names}
+        known = {name: grade for name, grade in grades.items() if grade is not None}
+        score = value_of(asked.expression, known) if len(known) == len(names) else low
         if not low <= score <= high:
-            raise TableError(f"the answer's bounds {low} and {high} of the key {source.key(item)!r} don't agree with its score {score}")
-        rows.append(Row(0, source.key(item), score, {name: source.value(name, item) for name in names}, grades, item, low, high))
+            raise TableError(f"the answer's bounds {low} and {high} of the key {key_of(item)!r} don't agree with its score {score}")
+        rows.append(Row(0, key_of(item), score, {name: value_of_object(name, item) for name in names}, grades, item, low, high))
     rows.sort(key=lambda row: -row.score)
-    rounding = Rounding(2 * spread(asked.expression, errors), {name: 2 * errors[name] for name in names}, {name: outside[name] for name in names})
     return NamedAnswer(
         tuple(dataclasses.replace(row, place=place) for place, row in enumerate(rows, 1)), given.query, asked.choice.algorithm, asked.choice.why,
         given.count, asked.factor, value_of(asked.expression, dict.fromkeys(names, MAX_GRADE)), Certificate.parse(given.certificate).guarantee,
-        rounding, given.depth, given.sorted, given.random, given.cost, given.certificate, core, source)
+        rounding, given.depth, given.sorted, given.random, given.cost, given.certificate, core, grade_of if rounding else None)
+
+
+def rounding_of(asked: Question, errors: Mapping[str, Fraction], outside: Mapping[str, int]) -> Rounding:
+    """What the rounding may do to the order of an answer, where each list's grades are off by so much at most."""
+    return Rounding(2 * spread(asked.expression, errors), {name: 2 * error for name, error in errors.items()}, outside)

@@ -114,8 +114,7 @@ def _quick(cells: Sequence[Any]) -> list[Any] | None:
             return None
     except ValueError:
         return None
-    finite = all(map(math.isfinite, cells))
-    return list(cells) if finite else None
+    return list(cells) if math.isfinite(sum(cells)) else None
 
 
 def _quick_with_gaps(cells: Sequence[Any]) -> list[Any] | None:

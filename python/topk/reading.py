@@ -2,6 +2,7 @@
 from __future__ import annotations
 
 import csv
+import io
 import itertools
 import os
 import pathlib
@@ -17,23 +18,35 @@ __all__ = ["columns_of_csv", "columns_of_frame", "columns_of_lists", "columns_of
 def columns_of_csv(path: str | os.PathLike[str], delimiter: str, encoding: str) -> dict[str, Sequence[Any]]:
     """The columns of a CSV file, whose first record has their names. All cells are texts; empty lines are no rows."""
     with open(path, newline="", encoding=encoding) as file:
-        reader = csv.reader(file, delimiter=delimiter)
-        try:
-            names = next(reader, None)
-            rows = list(reader)
-        except csv.Error as fault:
-            raise TableError(f"{path}, line {reader.line_num}: {fault}") from None
+        text = file.read()
+    names, cells = _plain_records(text, delimiter) or _records(text, delimiter, str(path))
+    _distinct(names, str(path))
+    return {name: cells[place::len(names)] for place, name in enumerate(names)}
+
+
+def _plain_records(text: str, delimiter: str) -> tuple[list[str], list[str]] | None:
+    """The header and the cells, row after row, of a text in which each line is a record; None of another, as one with quotes or empty lines."""
+    head, _, rest = text.replace("\r\n", "\n").rstrip("\n").partition("\n")
+    names = head.split(delimiter)
+    if not rest or '"' in text or "\r" in rest or set(map(str.count, rest.split("\n"), itertools.repeat(delimiter))) != {len(names) - 1}:
+        return None
+    return names, rest.replace("\n", delimiter).split(delimiter)
+
+
+def _records(text: str, delimiter: str, path: str) -> tuple[list[str], list[str]]:
+    """The same of any text."""
+    reader = csv.reader(io.StringIO(text, newline=""), delimiter=delimiter)
+    try:
+        names: list[str] = next(reader, [])
+        rows = [row for row in reader if row]
+    except csv.Error as fault:
+        raise TableError(f"{path}, line {reader.line_num}: {fault}") from None
     if not names:
         raise TableError(f"{path} has no header: its first line has to name the columns")
-    widths = set(map(len, rows))
-    if 0 in widths:
-        rows = [row for row in rows if row]
-    if widths - {0, len(names)}:
-        number, row = next((number, row) for number, row in enumerate(rows, 1) if len(row) != len(names))
-        raise TableError(f"{path}: row {number} has {len(row)} fields, and the header has {len(names)}: {','.join(row)[:80]!r}")
-    _distinct(names, str(path))
-    cells = list(itertools.chain.from_iterable(rows))
-    return {name: cells[place::len(names)] for place, name in enumerate(names)}
+    for number, row in enumerate(rows, 1):
+        if len(row) != len(names):
+            raise TableError(f"{path}: row {number} has {len(row)} fields, and the header has {len(names)}: {delimiter.join(row)[:80]!r}")
+    return names, list(itertools.chain.from_iterable(rows))
 
 
 def columns_of_rows(rows: Iterable[Any], columns: Sequence[str] | None) -> dict[str, Sequence[Any]]:

@@ -7,12 +7,13 @@ from collections.abc import Callable, Iterable, Mapping, Sequence
 from fractions import Fraction
 from typing import Any, NamedTuple
 
-from topk.answers import NamedAnswer, Source, named_answer
+from topk.answers import NamedAnswer, named_answer, rounding_of
+from topk.catalogs import Catalog, write_lists
 from topk.cores import Core, core as found_core
 from topk.criteria import Criterion
 from topk.faults import LimitPassed, TableError, unknown
 from topk.keys import checked_keys, objects_of
-from topk.limits import MAX_ROWS
+from topk.limits import MAX_CATALOG, MAX_ROWS
 from topk.questions import question
 from topk.ranking import ranked_rows
 from topk.reading import columns_of_csv, columns_of_frame, columns_of_lists, columns_of_mapping, columns_of_rows, columns_of_sqlite
@@ -71,7 +72,7 @@ class Table:
         self._keys: Sequence[Any] = range(1, self._count + 1) if key is None else checked_keys(self._columns[key], key)
         self._criteria: dict[str, Criterion] = {}
         self._lists: dict[Criterion, RankedList] = {}
-        self._objects: Sequence[int] | None = None
+        self._objects: array.array[int] | None = None
         self._rows: Mapping[int, int] | None = None
         for it in criteria:
             self._add(it)
@@ -141,7 +142,7 @@ class Table:
         return self._keys
 
     @property
-    def objects(self) -> Sequence[int]:
+    def objects(self) -> array.array[int]:
         """The number that stands for each key, in the order of the rows."""
         if self._objects is None:
             self._objects = objects_of(self._keys)
@@ -208,8 +209,25 @@ class Table:
         lists = {name: self.ranked_list(it) for name, it in used.items()}
         asks = core or found_core()
         given = asks.answer_rows({name: it.rows for name, it in lists.items()}, asked.query)
-        return named_answer(asked, given, asks, self._source(used, lists), {name: it.error for name, it in lists.items()},
-                            {name: it.outside for name, it in lists.items()})
+        rounding = rounding_of(asked, {name: it.error for name, it in lists.items()}, {name: it.outside for name, it in lists.items()})
+        row_of = self._row_of()
+        return named_answer(asked, given, asks, lambda item: self._keys[row_of[item]],
+                            lambda name, item: lists[name].grades[row_of[item]] if name in lists and item in row_of else None,
+                            lambda name, item: self._columns[used[name].column][row_of[item]], rounding)
+
+    def write_lists(self, folder: str | os.PathLike[str], names: Iterable[str] | None = None,
+                    progress: Callable[[str], None] = lambda file: None) -> Catalog:
+        """Writes the lists of all criteria, or of these, to a folder, with a catalog and the keys, for the program's `run`, `node` and `serve`.
+
+        Nothing is written where a cell is no number or a limit is passed. `progress` is called with the name of each file before it is written.
+        """
+        wanted = [self._criterion(name) for name in (self._criteria if names is None else names)]
+        if not wanted:
+            raise TableError("the table has no criterion, so there is no list to write: criteria= names some")
+        if len(wanted) > MAX_CATALOG:
+            raise LimitPassed(f"a catalog has at most {MAX_CATALOG} lists, and not {len(wanted)}")
+        lists = {it.name: (self.ranked_list(it).rows, it.grades) for it in wanted}
+        return write_lists(folder, self.objects, self._keys, lists, progress)
 
     def _add(self, it: Criterion) -> None:
         if it.column not in self._columns:
@@ -259,14 +277,8 @@ class Table:
         made._objects, made._rows = (self._objects, self._rows) if kept is None else (None, None)
         return made
 
-    def _source(self, used: Mapping[str, Criterion], lists: Mapping[str, RankedList]) -> Source:
-        """What an answer reads of this table."""
-        row_of = self._row_of()
-        return Source(lambda item: self._keys[row_of(item)], lambda name, item: lists[name].grades[row_of(item)],
-                      lambda name, item: self._columns[used[name].column][row_of(item)])
-
-    def _row_of(self) -> Callable[[int], int]:
-        """The row of an object's number. A number of none raises LookupError."""
+    def _row_of(self) -> Mapping[int, int]:
+        """The row of each object."""
         if self._rows is None:
             self._rows = {item: row for row, item in enumerate(self.objects)}
-        return self._rows.__getitem__
+        return self._rows
