@@ -30,7 +30,7 @@ import traceback
 OLDEST = (3, 9)
 HERE = pathlib.Path(__file__).resolve().parent
 PROGRAM = HERE.parent / "crates" / "topk" / "out" / "topk"
-TOPICS = ("wrong_bodies", "version", "manual", "special", "completions", "library", "view", "bridges", "hosts", "bad_hosts", "nodes", "servers", "peers",
+TOPICS = ("wrong_bodies", "version", "manual", "special", "completions", "library", "package", "view", "bridges", "hosts", "bad_hosts", "nodes", "servers", "peers",
           "sharing", "starving")
 # Tests that wait most of their time, for what comes only after half a minute or a whole one. They begin first, on threads beside the others; who ends
 # the run from outside waits for them too.
