@@ -20,7 +20,7 @@ LIB = $(DESTDIR)$(PREFIX)/lib
 INCLUDE = $(DESTDIR)$(PREFIX)/include
 SHARE = $(DESTDIR)$(PREFIX)/share
 
-.PHONY: try run lib test wrong-bodies fail-alloc bench threads install uninstall
+.PHONY: try run lib wheel test wrong-bodies fail-alloc bench threads install uninstall
 
 # The answers to the hotels' query lines from the whole program, unproved. Some of the lines are refused, so the program's status is 1.
 HOTEL_FILES = --data catalog.csv=data/catalog.csv $(foreach list,price rating centre quiet,--data hotels/$(list).csv=data/hotels/$(list).csv)
@@ -43,7 +43,8 @@ run: topk
 	cd $(HOTELS) && ../../../topk run catalog.csv < ../stdin; test $$? -eq 1
 	./topk one < crates/examples/data/two_lists.bundle
 
-# The proved library for other programs: c/out/libtopk.a and c/out/libtopk.so, which python/topk.py takes. It needs a C compiler.
+# The proved library for other programs: c/out/libtopk.a and c/out/libtopk.so. It needs a C compiler. The library goes into the Python package too,
+# and where this Python has pip with setuptools and wheel, c/out gets a wheel of both, which `pip install c/out/topk-*.whl` installs.
 lib:
 	cd crates/topk_c && rt lib
 	mkdir -p c/out
@@ -51,6 +52,15 @@ lib:
 	cp crates/topk_c/out/libtopk_c.a c/out/libtopk.a
 	$(AR) r c/out/libtopk.a c/out/heap.o
 	$(CC) -shared -o c/out/libtopk.so -Wl,--whole-archive c/out/libtopk.a -Wl,--no-whole-archive
+	cp c/out/libtopk.so python/topk/libtopk.so
+	if python3 -c 'import pip, setuptools, wheel' 2> /dev/null; then $(MAKE) --no-print-directory wheel; fi
+
+# A wheel of the Python package for this machine, with the library where `make lib` has built it: c/out/topk-VERSION-py3-none-linux_x86_64.whl.
+wheel:
+	mkdir -p c/out
+	rm -rf python/build python/topk.egg-info
+	python3 -m pip wheel --no-index --no-deps --no-build-isolation --quiet --wheel-dir c/out ./python
+	rm -rf python/build python/topk.egg-info
 
 # What `.ci/run` does, with the library built in between, so that its tests run too: the gate, and the program that it built, as a process with
 # words, streams, files, hosts and peers.

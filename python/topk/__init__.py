@@ -4,7 +4,8 @@ A table comes from a file, rows, a frame or a database. Criteria say which of it
 
 >>> from topk import Table, criterion
 >>> hotels = Table.from_mapping({"Adler": {"price": 120, "rating": 4.5}, "Krone": {"price": 80, "rating": 4.1}},
-...                             criteria=[criterion("price", best="low", scale=(0, 200)), criterion("rating", scale=(0, 5))])
+...                             criteria=[criterion("price", best="low", scale=(0, 200)),
+...                                       criterion("rating", scale=(0, 5))])
 >>> answer = hotels.top(1, {"price": 2, "rating": 1})
 >>> answer.keys, answer[0]["price"], answer.check()
 (['Krone'], 80, Fixes())
@@ -27,8 +28,9 @@ A query that isn't answered is an exception, which says why:
 Traceback (most recent call last):
 topk.Refused: KAboveCount 3 2
 
-Answers come from the proved library, or else from the program topk: `core` says where they are looked for. Calls may run on several threads at once, and
-let other threads of the process run meanwhile. Nothing but the standard library is needed.
+Answers come from the proved library, or else from the program topk: `core` says where they are looked for. Calls may
+run on several threads at once, and let other threads of the process run meanwhile. Nothing but the standard library is
+needed.
 """
 from __future__ import annotations
 
@@ -47,7 +49,41 @@ from topk.scales import reciprocal_rank
 from topk.tables import RankedList, Table
 
 __all__ = [
-    "Access", "Answer", "Beaten", "Catalog", "Certificate", "Core", "Criterion", "Disagrees", "Entry", "Fixes", "Library", "LimitPassed", "MAX_GRADE", "MAX_INPUT",
-    "MAX_LISTS", "MAX_ROWS", "MissingValue", "NamedAnswer", "NoCore", "Program", "Ranked", "RankedList", "Refused", "Rounding", "Row", "Table",
-    "TableError", "UnknownName", "__version__", "answer", "answer_bundle", "bundle_of", "core", "criterion", "judge", "ranked", "reciprocal_rank",
+    "Access",
+    "Answer",
+    "Beaten",
+    "Catalog",
+    "Certificate",
+    "Core",
+    "Criterion",
+    "Disagrees",
+    "Entry",
+    "Fixes",
+    "Library",
+    "LimitPassed",
+    "MAX_GRADE",
+    "MAX_INPUT",
+    "MAX_LISTS",
+    "MAX_ROWS",
+    "MissingValue",
+    "NamedAnswer",
+    "NoCore",
+    "Program",
+    "Ranked",
+    "RankedList",
+    "Refused",
+    "Rounding",
+    "Row",
+    "Table",
+    "TableError",
+    "UnknownName",
+    "__version__",
+    "answer",
+    "answer_bundle",
+    "bundle_of",
+    "core",
+    "criterion",
+    "judge",
+    "ranked",
+    "reciprocal_rank",
 ]

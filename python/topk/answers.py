@@ -29,7 +29,9 @@ class Row:
     key: Any
     """The row's key, as the table has it."""
     score: int
-    """The value of the question's expression over the grades, by its whole weights. Where a grade isn't known, the least that is possible."""
+    """The value of the question's expression over the grades, by its whole weights. Where a grade isn't known, the
+    least that is possible.
+    """
     values: Mapping[str, Any]
     """What the table has for each criterion of the question, by the criterion's name; None where it is missing."""
     grades: Mapping[str, int | None]
@@ -48,8 +50,8 @@ class Row:
 
 @dataclasses.dataclass(frozen=True)
 class Rounding:
-    """What the rounding of values to whole grades may do to the order: by the values themselves no row outside the answer is better than one inside by
-    more than `score`, beside what the algorithm's guarantee leaves.
+    """What the rounding of values to whole grades may do to the order: by the values themselves no row outside the
+    answer is better than one inside by more than `score`, beside what the algorithm's guarantee leaves.
     """
 
     score: Fraction
@@ -68,8 +70,10 @@ class Rounding:
         if self.exact:
             return "No grade was rounded: the order is that of the values."
         most = float(max(self.parts.values()))
-        return (f"Values were rounded to grades, by at most {most / 2:g} parts of a million of a criterion's span: "
-                f"by the values no row outside is better than one inside by more than {float(self.score):g} in score.")
+        return (
+            f"Values were rounded to grades, by at most {most / 2:g} parts of a million of a criterion's span: "
+            f"by the values no row outside is better than one inside by more than {float(self.score):g} in score."
+        )
 
 
 @dataclasses.dataclass(frozen=True)
@@ -101,9 +105,13 @@ class NamedAnswer:
     most: int
     """The score of a row that is best by each criterion."""
     guarantee: tuple[int, int] | None
-    """P and Q: Q times the score of a row outside is at most P times that of one inside. None where the answer is the best."""
+    """P and Q: Q times the score of a row outside is at most P times that of one inside. None where the answer is the
+    best.
+    """
     rounding: Rounding | None
-    """What the rounding of values may do to the order. None over list files, as nobody knows what their grades were made of."""
+    """What the rounding of values may do to the order. None over list files, as nobody knows what their grades were
+    made of.
+    """
     depth: int
     """The deepest row that was read of a list."""
     sorted: int
@@ -133,7 +141,8 @@ class NamedAnswer:
         return [row.key for row in self.rows]
 
     def check(self) -> Verdict | Disagrees:
-        """Whether the certificate fixes the answer, by the core's `judge`, and whether each of its accesses is what the table has.
+        """Whether the certificate fixes the answer, by the core's `judge`, and whether each of its accesses is what
+        the table has.
 
         `Fixes()` says both: the answer is right on each table that agrees with the accesses, and this table does.
         """
@@ -144,9 +153,18 @@ class NamedAnswer:
         return self.core.judge(self.certificate.encode())
 
 
-def named_answer(asked: Question, given: Answer, core: Core, key_of: Callable[[int], Any], grade_of: GradeOf, value_of_object: ValueOf,
-                 rounding: Rounding | None = None) -> NamedAnswer:
-    """The core's answer to a question with keys, grades and values. Without a rounding the grades are those of the certificate alone."""
+def named_answer(
+    asked: Question,
+    given: Answer,
+    core: Core,
+    key_of: Callable[[int], Any],
+    grade_of: GradeOf,
+    value_of_object: ValueOf,
+    rounding: Rounding | None = None,
+) -> NamedAnswer:
+    """The core's answer to a question with keys, grades and values. Without a rounding the grades are those of the
+    certificate alone.
+    """
     names = names_in(asked.expression)
     rows = []
     for item, low, high in given.objects:
@@ -154,13 +172,31 @@ def named_answer(asked: Question, given: Answer, core: Core, key_of: Callable[[i
         known = {name: grade for name, grade in grades.items() if grade is not None}
         score = value_of(asked.expression, known) if len(known) == len(names) else low
         if not low <= score <= high:
-            raise TableError(f"the answer's bounds {low} and {high} of the key {key_of(item)!r} don't agree with its score {score}")
-        rows.append(Row(0, key_of(item), score, {name: value_of_object(name, item) for name in names}, grades, item, low, high))
+            raise TableError(
+                f"the answer's bounds {low} and {high} of the key {key_of(item)!r} don't agree with its score {score}"
+            )
+        rows.append(
+            Row(0, key_of(item), score, {name: value_of_object(name, item) for name in names}, grades, item, low, high)
+        )
     rows.sort(key=lambda row: -row.score)
     return NamedAnswer(
-        tuple(dataclasses.replace(row, place=place) for place, row in enumerate(rows, 1)), given.query, asked.choice.algorithm, asked.choice.why,
-        given.count, asked.factor, value_of(asked.expression, dict.fromkeys(names, MAX_GRADE)), Certificate.parse(given.certificate).guarantee,
-        rounding, given.depth, given.sorted, given.random, given.cost, given.certificate, core, grade_of if rounding else None)
+        tuple(dataclasses.replace(row, place=place) for place, row in enumerate(rows, 1)),
+        given.query,
+        asked.choice.algorithm,
+        asked.choice.why,
+        given.count,
+        asked.factor,
+        value_of(asked.expression, dict.fromkeys(names, MAX_GRADE)),
+        Certificate.parse(given.certificate).guarantee,
+        rounding,
+        given.depth,
+        given.sorted,
+        given.random,
+        given.cost,
+        given.certificate,
+        core,
+        grade_of if rounding else None,
+    )
 
 
 def rounding_of(asked: Question, errors: Mapping[str, Fraction], outside: Mapping[str, int]) -> Rounding:

@@ -1,8 +1,11 @@
-"""Folders of list files: a catalog, the lists that it names, and the keys beside them, for the program's commands `run`, `node` and `serve`.
+"""Folders of list files: a catalog, the lists that it names, and the keys beside them, for the program's commands
+`run`, `node` and `serve`.
 
-    FOLDER/catalog.csv       name,place,random and a line for each list; places are relative to the folder, so the program runs in it
+    FOLDER/catalog.csv       name,place,random and a line for each list
     FOLDER/lists/NAME.csv    object,grade and a line for each row, from the top down
     FOLDER/keys.csv          object,key and a line for each row of the table
+
+Places are relative to the folder, so the program runs in it.
 """
 from __future__ import annotations
 
@@ -57,11 +60,14 @@ class Catalog:
         self.entries = {entry.name: entry for entry in entries}
         """The lists by their names."""
         self.keys = keys
-        """The key of each object; an object without one stands for itself. Keys that were read from a file are texts."""
+        """The key of each object; an object without one stands for itself. Keys that were read from a file are texts.
+        """
 
     @classmethod
     def read(cls, path: str | os.PathLike[str]) -> Catalog:
-        """Reads a catalog, given by its file or its folder, and the file keys.csv beside it, where there is one. Lists are read when they are asked."""
+        """Reads a catalog, given by its file or its folder, and the file keys.csv beside it, where there is one.
+        Lists are read when they are asked.
+        """
         place = pathlib.Path(path)
         place = place / CATALOG if place.is_dir() else place
         keys = place.parent / KEYS
@@ -84,22 +90,44 @@ class Catalog:
         """The rows of a list file: objects and grades in turn, in the order in which they stand there."""
         return _rows(self.place_of(name))
 
-    def top(self, k: int, by: Any, *, how: str = "sum", algorithm: str | None = None, cost: tuple[int, int] | None = None, room: int | None = None,
-            core: Library | Program | None = None) -> NamedAnswer:
-        """The best k objects, as `Table.top`, by the program's `run`; or by the library, where all lists are files that can be read from the top.
+    def top(
+        self,
+        k: int,
+        by: Any,
+        *,
+        how: str = "sum",
+        algorithm: str | None = None,
+        cost: tuple[int, int] | None = None,
+        room: int | None = None,
+        core: Library | Program | None = None,
+    ) -> NamedAnswer:
+        """The best k objects, as `Table.top`, by the program's `run`; or by the library, where all lists are files
+        that can be read from the top.
 
-        The answer's grades are those that the certificate has, and stand for values. Where it has too few for a score, as `nra` may leave it, the score
-        is the least that is possible.
+        The answer's grades are those that the certificate has, and stand for values. Where it has too few for a score,
+        as `nra` may leave it, the score is the least that is possible.
         """
-        asked = question(k, by, how, self._name, rows=k, algorithm=algorithm, cost=cost, room=room,
-                         without_grades=[it.name for it in self.entries.values() if not it.random],
-                         without_order=[it.name for it in self.entries.values() if not it.sorted])
+        asked = question(
+            k,
+            by,
+            how,
+            self._name,
+            rows=k,
+            algorithm=algorithm,
+            cost=cost,
+            room=room,
+            without_grades=[it.name for it in self.entries.values() if not it.random],
+            without_order=[it.name for it in self.entries.values() if not it.sorted],
+        )
         asks = core or found_core()
         used = [self.entries[name] for name in names_in(asked.expression)]
         if isinstance(asks, Library) and any(it.is_far or not it.sorted for it in used):
             program = find_program()
             if program is None:
-                raise NoCore("lists of hosts, and such that can't be read from the top, need the program topk: TOPK_PROGRAM may name it")
+                raise NoCore(
+                    "lists of hosts, and such that can't be read from the top, need the program topk: "
+                    "TOPK_PROGRAM may name it"
+                )
             asks = program
         return self._named(asked, self._asked(asks, asked, used), asks)
 
@@ -114,7 +142,14 @@ class Catalog:
         wanted = {it.object for it in given.objects}
         accesses = Certificate.parse(given.certificate).accesses()
         grades = {(it.list, it.object): it.grade for it in accesses if it.object in wanted}
-        return named_answer(asked, given, asks, self.key_of, lambda name, item: grades.get((name, item)), lambda name, item: grades.get((name, item)))
+        return named_answer(
+            asked,
+            given,
+            asks,
+            self.key_of,
+            lambda name, item: grades.get((name, item)),
+            lambda name, item: grades.get((name, item)),
+        )
 
     def _name(self, given: Any) -> str:
         if given not in self.entries:
@@ -122,8 +157,13 @@ class Catalog:
         return str(given)
 
 
-def write_lists(folder: str | os.PathLike[str], objects: array.array[int], keys: Iterable[Any], lists: Mapping[str, tuple[array.array[int], bool]],
-                progress: Callable[[str], None] = lambda file: None) -> Catalog:
+def write_lists(
+    folder: str | os.PathLike[str],
+    objects: array.array[int],
+    keys: Iterable[Any],
+    lists: Mapping[str, tuple[array.array[int], bool]],
+    progress: Callable[[str], None] = lambda file: None,
+) -> Catalog:
     """Writes lists, each as its rows and whether it gives grades, with a catalog and the keys, and gives the catalog.
 
     A file of the same name is replaced whole. `progress` is called with the name of each file before it is written.
@@ -139,7 +179,10 @@ def write_lists(folder: str | os.PathLike[str], objects: array.array[int], keys:
     progress(KEYS)
     _replace(place / KEYS, _csv([("object", "key"), *made.items()]))
     progress(CATALOG)
-    _replace(place / CATALOG, _csv([("name", "place", "random"), *((it.name, it.place, "yes" if it.random else "no") for it in entries)]))
+    _replace(
+        place / CATALOG,
+        _csv([("name", "place", "random"), *((it.name, it.place, "yes" if it.random else "no") for it in entries)]),
+    )
     return Catalog(place / CATALOG, entries, made)
 
 
@@ -163,7 +206,7 @@ def _records(path: pathlib.Path, header: tuple[str, ...]) -> list[list[str]]:
     """The records of a CSV file after its header."""
     with open(path, newline="", encoding="utf-8") as file:
         records = [record for record in csv.reader(file) if record]
-    if not records or tuple(records[0][:len(header)]) != header:
+    if not records or tuple(records[0][: len(header)]) != header:
         raise TableError(f"{path} has to begin with the line {','.join(header)}")
     return records[1:]
 
@@ -172,7 +215,11 @@ def _entries(path: pathlib.Path) -> list[Entry]:
     """The lines of a catalog."""
     entries: list[Entry] = []
     for number, record in enumerate(_records(path, ("name", "place", "random")), 2):
-        if len(record) not in (3, 4) or not NAME.fullmatch(record[0]) or any(it not in ("yes", "no") for it in record[2:]):
+        if (
+            len(record) not in (3, 4)
+            or not NAME.fullmatch(record[0])
+            or any(it not in ("yes", "no") for it in record[2:])
+        ):
             raise TableError(f"record {number} of {path} is no line of a catalog: {','.join(record)!r}")
         if record[0] in {it.name for it in entries}:
             raise TableError(f"record {number} of {path} names the list {record[0]} again")
@@ -199,8 +246,14 @@ def _rows(path: pathlib.Path) -> array.array[int]:
         rows = array.array("I", map(int, ",".join(lines).split(","))) if lines else array.array("I")
     except (ValueError, OverflowError):
         rows = array.array("I")
-    if len(rows) != 2 * len(lines) or set(map(str.count, lines, [","] * len(lines))) - {1} or (rows and max(rows[1::2]) > MAX_GRADE):
-        raise TableError(f"{path} is no list file: each line has to be an object's number, a comma and a grade from 0 to {MAX_GRADE}")
+    if (
+        len(rows) != 2 * len(lines)
+        or set(map(str.count, lines, [","] * len(lines))) - {1}
+        or (rows and max(rows[1::2]) > MAX_GRADE)
+    ):
+        raise TableError(
+            f"{path} is no list file: each line has to be an object's number, a comma and a grade from 0 to {MAX_GRADE}"
+        )
     if len(lines) > MAX_ROWS:
         raise LimitPassed(f"a list has at most {MAX_ROWS} rows, and {path} has {len(lines)}")
     return rows

@@ -7,7 +7,18 @@ from typing import NamedTuple, Union
 
 from topk.faults import NoCore, Refused
 
-__all__ = ["Access", "Answer", "Beaten", "Certificate", "Fixes", "Ranked", "Verdict", "answer_in", "fields_of", "verdict_in"]
+__all__ = [
+    "Access",
+    "Answer",
+    "Beaten",
+    "Certificate",
+    "Fixes",
+    "Ranked",
+    "Verdict",
+    "answer_in",
+    "fields_of",
+    "verdict_in",
+]
 
 
 class Ranked(NamedTuple):
@@ -72,11 +83,15 @@ class Certificate:
     versions: dict[str, int]
     """The versions that lists stated, by their names; a list without one isn't in here."""
     guarantee: tuple[int, int] | None
-    """P and Q: Q times the aggregate of an object outside is at most P times that of one inside. None where the answer is the best."""
+    """P and Q: Q times the aggregate of an object outside is at most P times that of one inside. None where the
+    answer is the best.
+    """
 
     @classmethod
     def parse(cls, text: str) -> Certificate:
-        """The parts of a certificate that the core wrote. Raises ValueError where it is none; `judge` says more of such a text."""
+        """The parts of a certificate that the core wrote. Raises ValueError where it is none; `judge` says more of
+        such a text.
+        """
         head = _Head()
         for line in _lines(text):
             if head.takes(line):
@@ -172,7 +187,9 @@ def fields_of(words: Iterable[str]) -> list[int | str]:
 
 
 def answer_in(text: str) -> Answer:
-    """The answer of what `one` and `run` write for a query. Raises Refused where it is a refusal, NoCore where it is neither."""
+    """The answer of what `one` and `run` write for a query. Raises Refused where it is a refusal, NoCore where it is
+    neither.
+    """
     words = text.split("\n", 1)[0].split(" ")
     if words[0] == "refused" and len(words) > 2:
         raise Refused(words[2], fields_of(words[3:]))

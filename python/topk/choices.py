@@ -16,10 +16,15 @@ class Choice(NamedTuple):
     why: str
 
 
-def chosen(lists: Collection[str], without_grades: Collection[str], without_order: Collection[str], operators: Collection[str],
-           cost: tuple[int, int]) -> Choice:
-    """The algorithm for lists, of which some can't be asked for one object's grade and some can't be read from the top, by the costs of a sorted and
-    a random access.
+def chosen(
+    lists: Collection[str],
+    without_grades: Collection[str],
+    without_order: Collection[str],
+    operators: Collection[str],
+    cost: tuple[int, int],
+) -> Choice:
+    """The algorithm for lists, of which some can't be asked for one object's grade and some can't be read from the
+    top, by the costs of a sorted and a random access.
 
     >>> chosen(["a", "b"], [], [], ["sum"], (1, 1))
     Choice(algorithm='ta', why='each list gives grades, and a grade costs no more than a row')
@@ -30,12 +35,24 @@ def chosen(lists: Collection[str], without_grades: Collection[str], without_orde
     """
     named, unordered = sorted(set(without_grades) & set(lists)), sorted(set(without_order) & set(lists))
     if named and unordered:
-        raise TableError(f"no algorithm reads these lists: {', '.join(named)} can't be asked for grades, and {', '.join(unordered)} can't be read in order")
+        raise TableError(
+            f"no algorithm reads these lists: {', '.join(named)} can't be asked for grades, and "
+            f"{', '.join(unordered)} can't be read in order"
+        )
     if unordered:
-        return Choice("taz", f"the list {', '.join(unordered)} can't be read in order" if len(unordered) == 1
-                      else f"the lists {', '.join(unordered)} can't be read in order")
+        return Choice(
+            "taz",
+            f"the list {', '.join(unordered)} can't be read in order"
+            if len(unordered) == 1
+            else f"the lists {', '.join(unordered)} can't be read in order",
+        )
     if named:
-        return Choice("nra", f"the list {named[0]} gives no grades" if len(named) == 1 else f"the lists {', '.join(named)} give no grades")
+        return Choice(
+            "nra",
+            f"the list {named[0]} gives no grades"
+            if len(named) == 1
+            else f"the lists {', '.join(named)} give no grades",
+        )
     if cost[1] <= cost[0]:
         return Choice("ta", "each list gives grades, and a grade costs no more than a row")
     if {"min", "median"} & set(operators):

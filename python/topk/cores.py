@@ -1,4 +1,6 @@
-"""Where answers come from: the proved library where it is there, else the program. Both give the same objects and the same certificates."""
+"""Where answers come from: the proved library where it is there, else the program. Both give the same objects and the
+same certificates.
+"""
 from __future__ import annotations
 
 import array
@@ -38,22 +40,26 @@ class Core(Protocol):
 def core() -> Union[Library, Program]:
     """The library, where it is there, else the program.
 
-    The library is the file that the environment variable TOPK_LIBRARY names, or else libtopk.so beside the package's files, in c/out/ of the
-    repository (`make lib` builds it there), or where the system looks. The program is the file that TOPK_PROGRAM names, or else `topk` on the path
-    or at the repository's top (`make topk`). Raises NoCore where there is neither.
+    The library is the file that the environment variable TOPK_LIBRARY names, or else libtopk.so beside the package's
+    files, in c/out/ of the repository (`make lib` builds it there), or where the system looks. The program is the file
+    that TOPK_PROGRAM names, or else `topk` on the path or at the repository's top (`make topk`). Raises NoCore where
+    there is neither.
     """
     found = find_library() or find_program()
     if found is None:
-        raise NoCore("there is neither the library libtopk.so nor the program topk: `make lib` or `make topk` builds one, "
-                     "or TOPK_LIBRARY or TOPK_PROGRAM names it")
+        raise NoCore(
+            "there is neither the library libtopk.so nor the program topk: `make lib` or `make topk` builds one, "
+            "or TOPK_LIBRARY or TOPK_PROGRAM names it"
+        )
     return found
 
 
 def answer(lists: Mapping[str, Pairs], query: str) -> Answer:
     """Answers a query over lists.
 
-    `lists` has the lists by name: all of the same objects, each object once in a list, the rows in any order. Objects are integers
-    up to 4294967295, grades up to 1000000. `query` is `top K by EXPRESSION using ALGORITHM`, with the algorithm `ta`, `nra`, `ca` or `fa`.
+    `lists` has the lists by name: all of the same objects, each object once in a list, the rows in any order. Objects
+    are integers up to 4294967295, grades up to 1000000. `query` is `top K by EXPRESSION using ALGORITHM`, with the
+    algorithm `ta`, `nra`, `ca` or `fa`.
 
     It is the answer of `answer_bundle` to what `bundle_of` makes of them; the library gets the rows without that text.
 

@@ -40,22 +40,33 @@ class Criterion:
         if len(present) == len(numbers):
             return self.scale.graded(present, self.best == "low") if present else Graded([], EXACT)
         if self.missing is None:
-            raise MissingValue(f"{where(numbers.index(None))} has no {self.column}, and the criterion refuses that: "
-                               "give missing= a grade from 0 to 1000000, or leave such rows out by where=")
+            raise MissingValue(
+                f"{where(numbers.index(None))} has no {self.column}, and the criterion refuses that: "
+                "give missing= a grade from 0 to 1000000, or leave such rows out by where="
+            )
         found = self.scale.graded(present, self.best == "low") if present else Graded([], EXACT)
         rest = iter(found.grades)
         return found._replace(grades=[self.missing if it is None else next(rest) for it in numbers])
 
 
-def criterion(column: str, *, best: str = "high", scale: Any = "min-max", missing: int | str = 0, name: str | None = None,
-              value: Callable[[Any], Any] | None = None, grades: bool = True) -> Criterion:
+def criterion(
+    column: str,
+    *,
+    best: str = "high",
+    scale: Any = "min-max",
+    missing: int | str = 0,
+    name: str | None = None,
+    value: Callable[[Any], Any] | None = None,
+    grades: bool = True,
+) -> Criterion:
     """A criterion: the column whose values count.
 
-    `best` says which values are best: "high" or "low". `scale` is "min-max" (from the worst value that is there to the best), two ends as
-    `(0, 900)`, "rank", "reciprocal-rank", `reciprocal_rank(60)`, or a function that says how good a value is, from 0 to 1. `missing` is the grade of
-    a missing value, from 0 to 1,000,000, or "refuse". `name` is what questions call it; it is the column's, where that is a name of a list.
-    `value` makes a number of what stands in the column, as `lambda text: date.fromisoformat(text).toordinal()`. With `grades=False` nobody may
-    ask the list for the grade of one object, and questions are answered by reading from the top alone.
+    `best` says which values are best: "high" or "low". `scale` is "min-max" (from the worst value that is there to the
+    best), two ends as `(0, 900)`, "rank", "reciprocal-rank", `reciprocal_rank(60)`, or a function that says how good a
+    value is, from 0 to 1. `missing` is the grade of a missing value, from 0 to 1,000,000, or "refuse". `name` is what
+    questions call it; it is the column's, where that is a name of a list. `value` makes a number of what stands in the
+    column, as `lambda text: date.fromisoformat(text).toordinal()`. With `grades=False` nobody may ask the list for the
+    grade of one object, and questions are answered by reading from the top alone.
 
     >>> criterion("price per night", best="low", scale=(0, 900)).name
     'price_per_night'
@@ -65,7 +76,9 @@ def criterion(column: str, *, best: str = "high", scale: Any = "min-max", missin
     if missing != "refuse" and (type(missing) is not int or not 0 <= missing <= MAX_GRADE):
         raise TableError(f"missing is a grade from 0 to {MAX_GRADE} or 'refuse', and not {missing!r}")
     if name is not None and not NAME.fullmatch(name):
-        raise TableError(f"{name!r} is no name of a criterion: a letter, and at most 31 letters, digits and underscores")
+        raise TableError(
+            f"{name!r} is no name of a criterion: a letter, and at most 31 letters, digits and underscores"
+        )
     grade = missing if isinstance(missing, int) else None
     return Criterion(column, name or list_name(column), best, scale_of(scale), grade, value, grades)
 
@@ -87,7 +100,9 @@ def is_missing(cell: Any) -> bool:
     return not cell.strip() if isinstance(cell, str) else bool(cell != cell)
 
 
-def numbers_in(cells: Sequence[Any], column: str, value: Callable[[Any], Any] | None, where: Callable[[int], str]) -> list[Number | None]:
+def numbers_in(
+    cells: Sequence[Any], column: str, value: Callable[[Any], Any] | None, where: Callable[[int], str]
+) -> list[Number | None]:
     """The numbers of a column's cells, None where one is missing. A text is a number where it is written as one.
 
     >>> numbers_in(["7", "", "8.5"], "price", None, str)
@@ -136,7 +151,10 @@ def _number(cell: Any, row: int, column: str, where: Callable[[int], str]) -> Nu
         return None
     found = _number_in_text(cell) if isinstance(cell, str) else _plain(cell)
     if found is None:
-        raise TableError(f"{where(row)} has {cell!r} in the column {column}, which is no number: criterion(.., value=) says how to read it")
+        raise TableError(
+            f"{where(row)} has {cell!r} in the column {column}, which is no number: "
+            "criterion(.., value=) says how to read it"
+        )
     if found != found:
         return None
     if not math.isfinite(found):

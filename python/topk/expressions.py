@@ -4,8 +4,9 @@
     part       = [ weight "*" ] expression
     operator   = "sum" | "wsum" | "min" | "max" | "median"
 
-Blanks may stand anywhere. Weights are whole or decimal numbers, and stand in `sum` and `wsum` alone. The core takes whole weights, so decimal ones are
-multiplied by a common factor: of an expression with the factor F the core's value is F times the stated one.
+Blanks may stand anywhere. Weights are whole or decimal numbers, and stand in `sum` and `wsum` alone. The core takes
+whole weights, so decimal ones are multiplied by a common factor: of an expression with the factor F the core's value
+is F times the stated one.
 """
 from __future__ import annotations
 
@@ -19,8 +20,21 @@ from typing import Union
 from topk.faults import LimitPassed, TableError
 from topk.limits import MAX_GRADE, MAX_LISTS, MAX_NESTING, MAX_NODES, MAX_VALUE
 
-__all__ = ["Combined", "Expression", "Named", "Weighted", "checked", "names_in", "operators_in", "parsed", "renamed", "spread", "text_of", "value_of",
-           "whole"]
+__all__ = [
+    "Combined",
+    "Expression",
+    "Named",
+    "Weighted",
+    "checked",
+    "names_in",
+    "operators_in",
+    "parsed",
+    "renamed",
+    "spread",
+    "text_of",
+    "value_of",
+    "whole",
+]
 
 
 @dataclasses.dataclass(frozen=True)
@@ -32,7 +46,9 @@ class Named:
 
 @dataclasses.dataclass(frozen=True)
 class Combined:
-    """`min`, `max`, `sum` or `median` of the values of the parts. Of an even number of values the median is the lower one in the middle."""
+    """`min`, `max`, `sum` or `median` of the values of the parts. Of an even number of values the median is the lower
+    one in the middle.
+    """
 
     operator: str
     parts: tuple[Expression, ...]
@@ -131,7 +147,9 @@ def names_in(expression: Expression) -> tuple[str, ...]:
 
 def operators_in(expression: Expression) -> set[str]:
     """Its operators, of which a weighted sum is `wsum`."""
-    return {it.operator if isinstance(it, Combined) else "wsum" for it, _ in _nodes(expression) if not isinstance(it, Named)}
+    return {
+        it.operator if isinstance(it, Combined) else "wsum" for it, _ in _nodes(expression) if not isinstance(it, Named)
+    }
 
 
 def renamed(expression: Expression, name: Callable[[str], str]) -> Expression:
@@ -148,14 +166,19 @@ def checked(expression: Expression) -> Expression:
     nodes = list(_nodes(expression))
     lists, nesting = names_in(expression), max(depth for _, depth in nodes)
     if len(lists) > MAX_LISTS:
-        raise LimitPassed(f"a question names at most {MAX_LISTS} criteria, and this one names {len(lists)}: {', '.join(lists)}")
+        raise LimitPassed(
+            f"a question names at most {MAX_LISTS} criteria, and this one names {len(lists)}: {', '.join(lists)}"
+        )
     if len(nodes) > MAX_NODES:
         raise LimitPassed(f"an expression has at most {MAX_NODES} parts, and this one has {len(nodes)}")
     if nesting > MAX_NESTING:
         raise LimitPassed(f"an expression nests at most {MAX_NESTING} deep, and this one nests {nesting} deep")
     best = dict.fromkeys(lists, MAX_GRADE)
     if any(value_of(it, best) > MAX_VALUE for it, _ in nodes):
-        raise LimitPassed(f"a value of the expression may pass {MAX_VALUE}: its weights, as whole numbers, are too great: {text_of(expression)}")
+        raise LimitPassed(
+            f"a value of the expression may pass {MAX_VALUE}: its weights, as whole numbers, are too great: "
+            f"{text_of(expression)}"
+        )
     return expression
 
 
@@ -172,7 +195,7 @@ class _Reader:
         found = _TOKEN.match(self.text, self.at)
         if found is None:
             self.token = ""
-            if self.text[self.at:].strip():
+            if self.text[self.at :].strip():
                 raise self.fault(f"{self.text[self.at:].strip()[0]!r} has no meaning here")
             return
         self.token, self.at = found.group().strip(), found.end()
@@ -216,7 +239,7 @@ class _Reader:
 
     def fault(self, why: str) -> TableError:
         """The error at this place of the text."""
-        before = self.text[:self.end].strip()
+        before = self.text[: self.end].strip()
         return TableError(f"{self.text!r} is no expression: {why}" + (f" behind {before!r}" if before else ""))
 
 
@@ -232,7 +255,12 @@ def _nodes(expression: Expression, depth: int = 1) -> Iterator[tuple[Expression,
 
 
 def _times(expression: Expression, factor: int) -> Expression:
-    return expression if factor == 1 else Weighted(((Fraction(factor), expression),))
+    """An expression whose value is so many times that of another."""
+    if factor == 1:
+        return expression
+    if isinstance(expression, Weighted):
+        return Weighted(tuple((weight * factor, part) for weight, part in expression.parts))
+    return Weighted(((Fraction(factor), expression),))
 
 
 def _median(values: list[int]) -> int:

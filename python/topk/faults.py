@@ -10,9 +10,9 @@ __all__ = ["LimitPassed", "MissingValue", "NoCore", "Refused", "TableError", "Un
 class Refused(Exception):
     """Why there is no answer or no verdict.
 
-    `name` and `fields` are those of the core's text, as `KAboveCount` and `(3, 2)`: a number is an int, a list stands by its name.
-    Where the bytes are no bundle, `name` is `NoBundle` and the field is the first line with which none begins. Where they are more
-    than `MAX_INPUT`, it is `LongInput`, and the field is that number.
+    `name` and `fields` are those of the core's text, as `KAboveCount` and `(3, 2)`: a number is an int, a list stands
+    by its name. Where the bytes are no bundle, `name` is `NoBundle` and the field is the first line with which none
+    begins. Where they are more than `MAX_INPUT`, it is `LongInput`, and the field is that number.
     """
 
     def __init__(self, name: str, fields: Iterable[int | str] = (), hint: str = "") -> None:

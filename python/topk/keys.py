@@ -13,8 +13,8 @@ __all__ = ["checked_keys", "objects_of"]
 
 
 def objects_of(keys: Sequence[Any]) -> array.array[int]:
-    """The number of each key. Whole numbers up to 4294967295, and texts that are such numbers, stand for themselves where all keys are so;
-    else the keys are numbered from 1, in the order of the rows.
+    """The number of each key. Whole numbers up to 4294967295, and texts that are such numbers, stand for themselves
+    where all keys are so; else the keys are numbered from 1, in the order of the rows.
 
     >>> list(objects_of(["7", "12"])), list(objects_of(["7", "twelve"])), list(objects_of([2**40, 5]))
     ([7, 12], [1, 2], [1, 2])
@@ -32,7 +32,9 @@ def objects_of(keys: Sequence[Any]) -> array.array[int]:
     return array.array("I", range(1, len(keys) + 1))
 
 
-def checked_keys(keys: Sequence[Any], column: str, where: Callable[[int], str] = lambda row: f"row {row + 1}") -> Sequence[Any]:
+def checked_keys(
+    keys: Sequence[Any], column: str, where: Callable[[int], str] = lambda row: f"row {row + 1}"
+) -> Sequence[Any]:
     """The keys, where each row has one and no two have the same. Raises TableError else."""
     try:
         if len(set(keys)) == len(keys) and not _has_gaps(keys):
@@ -44,7 +46,9 @@ def checked_keys(keys: Sequence[Any], column: str, where: Callable[[int], str] =
         if is_missing(key):
             raise TableError(f"{where(row)} has no {column}, which is the key")
         if places.setdefault(key, row) != row:
-            raise TableError(f"{where(row)} has the key {key!r} of {where(places[key])}: each row needs a key of its own")
+            raise TableError(
+                f"{where(row)} has the key {key!r} of {where(places[key])}: each row needs a key of its own"
+            )
     return keys
 
 

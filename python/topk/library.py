@@ -1,4 +1,6 @@
-"""The proved library, called by ctypes. It is loaded at the first call; calls may run on several threads at once, and let others run meanwhile."""
+"""The proved library, called by ctypes. It is loaded at the first call; calls may run on several threads at once, and
+let others run meanwhile.
+"""
 from __future__ import annotations
 
 import array
@@ -23,7 +25,12 @@ _NO_ROW = ctypes.create_string_buffer(8)
 class _List(ctypes.Structure):
     """A list, as the library takes it: struct topk_list of topk.h."""
 
-    _fields_ = [("name", ctypes.c_char_p), ("name_length", ctypes.c_size_t), ("rows", ctypes.c_void_p), ("rows_length", ctypes.c_size_t)]
+    _fields_ = [
+        ("name", ctypes.c_char_p),
+        ("name_length", ctypes.c_size_t),
+        ("rows", ctypes.c_void_p),
+        ("rows_length", ctypes.c_size_t),
+    ]
 
 
 class Library:
@@ -41,7 +48,9 @@ class Library:
     def answer_rows(self, rows: Mapping[str, array.array[int]], query: str) -> Answer:
         """The answer to a query over lists, each with its rows from the top down. No row is put elsewhere."""
         line = query.encode()
-        given = (_List * len(rows))(*[_List(name.encode(), len(name), _at(numbers), len(numbers) // 2) for name, numbers in rows.items()])
+        given = (_List * len(rows))(
+            *[_List(name.encode(), len(name), _at(numbers), len(numbers) // 2) for name, numbers in rows.items()]
+        )
         room = max(_LEAST_ROOM, 8 * sum(map(len, rows.values())))
         status, text = self._called("topk_answer_rows", room, given, len(given), line, len(line))
         return answered(status, text, lambda at: place_of(rows, query, at))
@@ -66,8 +75,8 @@ class Library:
 
 
 def find_library() -> Library | None:
-    """The library that the environment variable TOPK_LIBRARY names, or else libtopk.so beside the package's files, in c/out/ of the repository
-    or where the system looks; None where there is none.
+    """The library that the environment variable TOPK_LIBRARY names, or else libtopk.so beside the package's files, in
+    c/out/ of the repository or where the system looks; None where there is none.
 
     Raises NoCore where TOPK_LIBRARY names a file that can't be loaded.
     """
@@ -94,7 +103,11 @@ def _loaded(path: str) -> ctypes.CDLL:
     text: list[Any] = [ctypes.c_char_p, ctypes.c_size_t]
     told = [ctypes.c_char_p, ctypes.c_size_t, ctypes.POINTER(ctypes.c_size_t)]
     lists = [ctypes.POINTER(_List), ctypes.c_size_t]
-    for call, given in ((library.topk_answer, text), (library.topk_judge, text), (library.topk_answer_rows, lists + text)):
+    for call, given in (
+        (library.topk_answer, text),
+        (library.topk_judge, text),
+        (library.topk_answer_rows, lists + text),
+    ):
         call.argtypes = given + told
         call.restype = ctypes.c_uint8
     return library

@@ -20,7 +20,8 @@ MAX_NESTING = 8
 MAX_COUNT = 1_000_000
 """The greatest k, cost and room of a query."""
 MAX_VALUE = 0x7FFF_FFFF_FFFF_FFFF
-"""The greatest weight, and the greatest value that a node of an expression may have where all grades are `MAX_GRADE`."""
+"""The greatest weight, and the greatest value that a node of an expression may have where all grades are `MAX_GRADE`.
+"""
 MAX_QUERY = 4096
 """The most bytes of a query."""
 MAX_INPUT = 134_217_728

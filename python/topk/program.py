@@ -1,4 +1,6 @@
-"""The program topk, as a process for each call: `one` over lists in memory, `run` over a catalog, `judge` over a certificate."""
+"""The program topk, as a process for each call: `one` over lists in memory, `run` over a catalog, `judge` over a
+certificate.
+"""
 from __future__ import annotations
 
 import array
@@ -41,7 +43,8 @@ class Program:
         return judged(*self.called(["judge"], certificate))
 
     def run(self, catalog: str | os.PathLike[str], query: str, options: Sequence[str] = ()) -> Answer:
-        """The answer to a query over the lists of a catalog, whose places are relative to the folder in which it stands.
+        """The answer to a query over the lists of a catalog, whose places are relative to the folder in which it
+        stands.
 
         `options` are those of `topk run`, as `["--workers", "8"]`.
         """
@@ -51,7 +54,9 @@ class Program:
             raise Refused("catalog", text.split()[2:])
         return answered(status, text)
 
-    def called(self, words: Sequence[str], given: bytes, folder: str | os.PathLike[str] | None = None) -> tuple[int, str]:
+    def called(
+        self, words: Sequence[str], given: bytes, folder: str | os.PathLike[str] | None = None
+    ) -> tuple[int, str]:
         """The status and the text of a process with these words, to which this is given."""
         try:
             done = subprocess.run([self.place, *words], input=given, stdout=subprocess.PIPE, cwd=folder, check=False)
@@ -61,7 +66,9 @@ class Program:
 
 
 def find_program() -> Program | None:
-    """The program that the environment variable TOPK_PROGRAM names, or else `topk` on the path or at the repository's top; None where there is none."""
+    """The program that the environment variable TOPK_PROGRAM names, or else `topk` on the path or at the repository's
+    top; None where there is none.
+    """
     named = os.environ.get("TOPK_PROGRAM") or shutil.which("topk")
     if named:
         return Program(named)

@@ -8,7 +8,19 @@ from fractions import Fraction
 from typing import Any
 
 from topk.choices import Choice, chosen
-from topk.expressions import Combined, Expression, Named, Weighted, checked, names_in, operators_in, parsed, renamed, text_of, whole
+from topk.expressions import (
+    Combined,
+    Expression,
+    Named,
+    Weighted,
+    checked,
+    names_in,
+    operators_in,
+    parsed,
+    renamed,
+    text_of,
+    whole,
+)
 from topk.faults import LimitPassed, TableError
 from topk.limits import MAX_COUNT, MAX_QUERY
 
@@ -36,9 +48,21 @@ class Question:
         return f"top {self.k} by {text_of(self.expression)} using {self.choice.algorithm}{cost}{room}"
 
 
-def question(k: int, by: Any, how: str, name_of: Callable[[Any], str], *, rows: int, algorithm: str | None, cost: tuple[int, int] | None,
-             room: int | None, without_grades: Iterable[str] = (), without_order: Iterable[str] = ()) -> Question:
-    """The question for the best k of so many rows. `name_of` says which list a name or a criterion means, or raises UnknownName.
+def question(
+    k: int,
+    by: Any,
+    how: str,
+    name_of: Callable[[Any], str],
+    *,
+    rows: int,
+    algorithm: str | None,
+    cost: tuple[int, int] | None,
+    room: int | None,
+    without_grades: Iterable[str] = (),
+    without_order: Iterable[str] = (),
+) -> Question:
+    """The question for the best k of so many rows. `name_of` says which list a name or a criterion means, or raises
+    UnknownName.
 
     Raises TableError where it is none that the core takes.
     """
@@ -47,7 +71,9 @@ def question(k: int, by: Any, how: str, name_of: Callable[[Any], str], *, rows: 
             raise TableError(f"{name} is a whole number from 1 on, and not {number!r}")
         if number > MAX_COUNT:
             raise LimitPassed(f"{name} is at most {MAX_COUNT}, and not {number}")
-    made, factor = whole(renamed(_expression(by, how), name_of) if isinstance(by, str) else _expression(by, how, name_of))
+    made, factor = whole(
+        renamed(_expression(by, how), name_of) if isinstance(by, str) else _expression(by, how, name_of)
+    )
     checked(made)
     found = chosen(names_in(made), list(without_grades), list(without_order), operators_in(made), cost or (1, 1))
     choice = found if algorithm is None else Choice(algorithm, "it was named")
@@ -78,11 +104,17 @@ def _expression(by: Any, how: str, name_of: Callable[[Any], str] = str) -> Expre
         return parsed(by)
     if not isinstance(by, (Mapping, Iterable)):
         by = [by]
-    weights = {name: weight_of(weight) for name, weight in by.items()} if isinstance(by, Mapping) else dict.fromkeys(by, Fraction(1))
+    weights = (
+        {name: weight_of(weight) for name, weight in by.items()}
+        if isinstance(by, Mapping)
+        else dict.fromkeys(by, Fraction(1))
+    )
     if not any(weights.values()):
         raise TableError("no criterion counts: name one, with a weight above 0")
     if how not in ("sum", "min", "max", "median"):
-        raise TableError(f"{how!r} is no way to put grades together: sum, min, max, median, or an expression as the second argument")
+        raise TableError(
+            f"{how!r} is no way to put grades together: sum, min, max, median, or an expression as the second argument"
+        )
     parts: list[tuple[Fraction, Expression]] = [(weight, Named(name_of(name))) for name, weight in weights.items()]
     if how == "sum" and any(weight != 1 for weight, _ in parts):
         return Weighted(tuple(parts))

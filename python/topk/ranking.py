@@ -1,4 +1,6 @@
-"""Lists as the core takes them: the objects and the grades of a list in turn, from the top down, as numbers of 32 bits."""
+"""Lists as the core takes them: the objects and the grades of a list in turn, from the top down, as numbers of 32
+bits.
+"""
 from __future__ import annotations
 
 import array
@@ -12,12 +14,13 @@ from topk.limits import MAX_OBJECT, NAME
 __all__ = ["Pairs", "bundle_of", "bundle_text", "line_of", "place_of", "ranked", "ranked_rows", "rows_of"]
 
 Pairs = Union[Iterable[Iterable[int]], "tuple[Any, Any]"]
-"""A list: pairs of an object and its grade, or a tuple of two arrays (of numpy, or of the module array), of the objects and of their grades.
+"""A list: pairs of an object and its grade, or a tuple of two arrays (of numpy, or of the module array), of the
+objects and of their grades.
 
-The rows of a list may come in any order: where the grades rise, the rows are ranked, the greatest grade first, of equal grades the smaller
-object. Rows whose grades never rise stay as they are, so that whoever has an order among equal grades keeps it.
+The rows of a list may come in any order: where the grades rise, the rows are ranked, the greatest grade first, of
+equal grades the smaller object. Rows whose grades never rise stay as they are, so that whoever has an order among
+equal grades keeps it.
 """
-
 
 
 def ranked(pairs: Pairs) -> list[tuple[int, int]]:
@@ -33,8 +36,8 @@ def ranked(pairs: Pairs) -> list[tuple[int, int]]:
 def bundle_of(lists: Mapping[str, Pairs], query: str) -> bytes:
     """The text of a bundle: the lists, each under its name and in the order of its grades, and the query.
 
-    Raises ValueError where a name is none, an object or a grade isn't from 0 to 4294967295, or the query has more than one line, TypeError
-    where an object or a grade is no integer.
+    Raises ValueError where a name is none, an object or a grade isn't from 0 to 4294967295, or the query has more than
+    one line, TypeError where an object or a grade is no integer.
 
     >>> print(bundle_of({"price": [(7, 900)]}, "top 1 by price using ta").decode(), end="")
     list price
@@ -85,14 +88,18 @@ def line_of(query: str) -> str:
 
 
 def place_of(rows: Mapping[str, array.array[int]], query: str, line: int) -> str:
-    """Which row of which list a line of the bundle is that these print as, for whoever made the lists and not the text."""
+    """Which row of which list a line of the bundle is that these print as, for whoever made the lists and not the
+    text.
+    """
     start = 1
     for name, numbers in rows.items():
         row = line - start
         if row == 0:
             return f"the line 'list {name}'"
         if row <= len(numbers) // 2:
-            return f"row {row} of the list {name}, the object {numbers[2 * row - 2]} with the grade {numbers[2 * row - 1]}"
+            return (
+                f"row {row} of the list {name}, the object {numbers[2 * row - 2]} with the grade {numbers[2 * row - 1]}"
+            )
         start += 1 + len(numbers) // 2
     return f"the line {'query ' + query!r}" if line == start else ""
 
@@ -132,6 +139,7 @@ def _checked(column: Any) -> Any:
 def _ranked_columns(objects: Any, grades: Any) -> array.array[int]:
     """The rows of two columns of numpy as they are, where no grade rises, else ranked."""
     import numpy
+
     objects, grades = _checked(objects), _checked(grades)
     if len(objects) != len(grades):
         raise ValueError(f"{len(objects)} objects have {len(grades)} grades")

@@ -12,7 +12,14 @@ from typing import Any
 
 from topk.faults import TableError
 
-__all__ = ["columns_of_csv", "columns_of_frame", "columns_of_lists", "columns_of_mapping", "columns_of_rows", "columns_of_sqlite"]
+__all__ = [
+    "columns_of_csv",
+    "columns_of_frame",
+    "columns_of_lists",
+    "columns_of_mapping",
+    "columns_of_rows",
+    "columns_of_sqlite",
+]
 
 
 def columns_of_csv(path: str | os.PathLike[str], delimiter: str, encoding: str) -> dict[str, Sequence[Any]]:
@@ -21,14 +28,21 @@ def columns_of_csv(path: str | os.PathLike[str], delimiter: str, encoding: str) 
         text = file.read()
     names, cells = _plain_records(text, delimiter) or _records(text, delimiter, str(path))
     _distinct(names, str(path))
-    return {name: cells[place::len(names)] for place, name in enumerate(names)}
+    return {name: cells[place :: len(names)] for place, name in enumerate(names)}
 
 
 def _plain_records(text: str, delimiter: str) -> tuple[list[str], list[str]] | None:
-    """The header and the cells, row after row, of a text in which each line is a record; None of another, as one with quotes or empty lines."""
+    """The header and the cells, row after row, of a text in which each line is a record; None of another, as one with
+    quotes or empty lines.
+    """
     head, _, rest = text.replace("\r\n", "\n").rstrip("\n").partition("\n")
     names = head.split(delimiter)
-    if not rest or '"' in text or "\r" in rest or set(map(str.count, rest.split("\n"), itertools.repeat(delimiter))) != {len(names) - 1}:
+    if (
+        not rest
+        or '"' in text
+        or "\r" in rest
+        or set(map(str.count, rest.split("\n"), itertools.repeat(delimiter))) != {len(names) - 1}
+    ):
         return None
     return names, rest.replace("\n", delimiter).split(delimiter)
 
@@ -45,7 +59,10 @@ def _records(text: str, delimiter: str, path: str) -> tuple[list[str], list[str]
         raise TableError(f"{path} has no header: its first line has to name the columns")
     for number, row in enumerate(rows, 1):
         if len(row) != len(names):
-            raise TableError(f"{path}: row {number} has {len(row)} fields, and the header has {len(names)}: {delimiter.join(row)[:80]!r}")
+            raise TableError(
+                f"{path}: row {number} has {len(row)} fields, and the header has {len(names)}: "
+                f"{delimiter.join(row)[:80]!r}"
+            )
     return names, list(itertools.chain.from_iterable(rows))
 
 
@@ -73,7 +90,9 @@ def columns_of_mapping(mapping: Mapping[Any, Mapping[str, Any]], key: str) -> di
 
 
 def columns_of_lists(lists: Mapping[str, Any], key: str) -> dict[str, Sequence[Any]]:
-    """The columns of lists, each a mapping of keys to values or pairs of both: a key that a list hasn't has no value there."""
+    """The columns of lists, each a mapping of keys to values or pairs of both: a key that a list hasn't has no value
+    there.
+    """
     tables = {}
     for name, pairs in lists.items():
         pairs = list(pairs.items()) if isinstance(pairs, Mapping) else [(item, value) for item, value in pairs]
@@ -87,7 +106,9 @@ def columns_of_lists(lists: Mapping[str, Any], key: str) -> dict[str, Sequence[A
 
 
 def columns_of_frame(frame: Any, key: str | None) -> dict[str, Sequence[Any]]:
-    """The columns of a frame of pandas or polars, or of a mapping of names to columns; a pandas index counts as a column where `key` is its name."""
+    """The columns of a frame of pandas or polars, or of a mapping of names to columns; a pandas index counts as a
+    column where `key` is its name.
+    """
     names = list(frame) if isinstance(frame, Mapping) else list(frame.columns)
     if any(not isinstance(name, str) for name in names):
         raise TableError(f"the names of columns have to be texts: {names!r}")
@@ -115,7 +136,7 @@ def columns_of_sqlite(path: str | os.PathLike[str], select: str, parameters: Any
     finally:
         connection.close()
     cells = list(itertools.chain.from_iterable(rows))
-    return {name: cells[place::len(names)] for place, name in enumerate(names)}
+    return {name: cells[place :: len(names)] for place, name in enumerate(names)}
 
 
 def _cells(column: Any) -> Sequence[Any]:

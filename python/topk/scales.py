@@ -1,8 +1,9 @@
 """Scales: how the values of a criterion become grades, whole numbers from 0 to 1,000,000.
 
-**How grades are rounded.** A scale says where a value stands between the worst, 0, and the best, 1. Its grade is a million times that, rounded to the
-nearest whole number, and upwards from the middle between two. So a grade is off by at most half a part of a million of the criterion's span. Whole
-numbers, decimals and fractions are computed exactly. Floats are computed as floats, which adds less than a billionth of a part.
+**How grades are rounded.** A scale says where a value stands between the worst, 0, and the best, 1. Its grade is a
+million times that, rounded to the nearest whole number, and upwards from the middle between two. So a grade is off by
+at most half a part of a million of the criterion's span. Whole numbers, decimals and fractions are computed exactly.
+Floats are computed as floats, which adds less than a billionth of a part.
 """
 from __future__ import annotations
 
@@ -16,7 +17,18 @@ from typing import Any, NamedTuple, Protocol, Union
 from topk.faults import TableError
 from topk.limits import MAX_GRADE
 
-__all__ = ["Between", "ByRank", "Graded", "MinMax", "Number", "OwnScale", "ReciprocalRank", "Scale", "reciprocal_rank", "scale_of"]
+__all__ = [
+    "Between",
+    "ByRank",
+    "Graded",
+    "MinMax",
+    "Number",
+    "OwnScale",
+    "ReciprocalRank",
+    "Scale",
+    "reciprocal_rank",
+    "scale_of",
+]
 
 Number = Union[int, float, Fraction, Decimal]
 """What values of a criterion are."""
@@ -45,7 +57,8 @@ class Scale(Protocol):
 
 @dataclasses.dataclass(frozen=True)
 class MinMax:
-    """From the worst value that is there, which gets 0, to the best one, which gets 1,000,000. Where all are equal, each gets 1,000,000.
+    """From the worst value that is there, which gets 0, to the best one, which gets 1,000,000. Where all are equal,
+    each gets 1,000,000.
 
     >>> MinMax().graded([10, 30, 20], low_is_best=False).grades
     [0, 1000000, 500000]
@@ -86,7 +99,8 @@ class Between:
 
 @dataclasses.dataclass(frozen=True)
 class ByRank:
-    """By place: the best value gets 1,000,000, the last place 0, and each place between them its share. Equal values share the first of their places.
+    """By place: the best value gets 1,000,000, the last place 0, and each place between them its share. Equal values
+    share the first of their places.
 
     >>> ByRank().graded([5, 9, 9, 7], low_is_best=False).grades
     [0, 1000000, 1000000, 333333]
@@ -103,9 +117,11 @@ class ByRank:
 
 @dataclasses.dataclass(frozen=True)
 class ReciprocalRank:
-    """By 1 / (constant + place), for reciprocal rank fusion: the first place gets 1,000,000, so place p gets 1,000,000 (constant + 1) / (constant + p).
+    """By 1 / (constant + place), for reciprocal rank fusion: the first place gets 1,000,000, so place p gets 1,000,000
+    (constant + 1) / (constant + p).
 
-    Sums of such grades rank as sums of the reciprocals do, where all criteria have the same constant. Equal values share the first of their places.
+    Sums of such grades rank as sums of the reciprocals do, where all criteria have the same constant. Equal values
+    share the first of their places.
 
     >>> ReciprocalRank(60).graded([0.9, 0.5, 0.7], low_is_best=False).grades
     [1000000, 968254, 983871]
@@ -115,7 +131,9 @@ class ReciprocalRank:
 
     def __post_init__(self) -> None:
         if not isinstance(self.constant, int) or self.constant < 0:
-            raise TableError(f"the constant of a reciprocal rank is a whole number from 0 on, and not {self.constant!r}")
+            raise TableError(
+                f"the constant of a reciprocal rank is a whole number from 0 on, and not {self.constant!r}"
+            )
 
     def graded(self, values: Sequence[Any], low_is_best: bool) -> Graded:
         """The grades of values."""
@@ -141,7 +159,10 @@ class OwnScale:
         shares = [self.share(value) for value in values]
         for value, share in zip(values, shares):
             if not 0 <= share <= 1:
-                raise TableError(f"the scale gives {share!r} for the value {value!r}: it has to give a number from 0, the worst, to 1, the best")
+                raise TableError(
+                    f"the scale gives {share!r} for the value {value!r}: "
+                    "it has to give a number from 0, the worst, to 1, the best"
+                )
         return _linear(shares, 0, 1)
 
 
@@ -151,7 +172,8 @@ def reciprocal_rank(constant: int = 60) -> ReciprocalRank:
 
 
 def scale_of(given: Any) -> Scale:
-    """The scale that is meant: "min-max", "rank", "reciprocal-rank", two ends, a function of the value, or a scale itself.
+    """The scale that is meant: "min-max", "rank", "reciprocal-rank", two ends, a function of the value, or a scale
+    itself.
 
     >>> scale_of((0, 900)), scale_of("rank")
     (Between(low=0, high=900), ByRank())
@@ -159,7 +181,9 @@ def scale_of(given: Any) -> Scale:
     if isinstance(given, str):
         names: dict[str, Scale] = {"min-max": MinMax(), "rank": ByRank(), "reciprocal-rank": ReciprocalRank()}
         if given not in names:
-            raise TableError(f"there is no scale {given!r}, but {', '.join(names)}, two ends as (0, 900), or a function of the value")
+            raise TableError(
+                f"there is no scale {given!r}, but {', '.join(names)}, two ends as (0, 900), or a function of the value"
+            )
         return names[given]
     if hasattr(given, "graded"):
         found: Scale = given
@@ -168,7 +192,9 @@ def scale_of(given: Any) -> Scale:
         return OwnScale(given)
     if isinstance(given, (tuple, list)) and len(given) == 2:
         return Between(*given)
-    raise TableError(f"{given!r} is no scale: \"min-max\", \"rank\", \"reciprocal-rank\", two ends as (0, 900), or a function of the value")
+    raise TableError(
+        f'{given!r} is no scale: "min-max", "rank", "reciprocal-rank", two ends as (0, 900), or a function of the value'
+    )
 
 
 def _linear(values: Sequence[Any], worst: Any, best: Any) -> Graded:
@@ -179,7 +205,9 @@ def _linear(values: Sequence[Any], worst: Any, best: Any) -> Graded:
     span = float(best) - float(worst) if kinds <= {int, float, bool} else math.inf
     if math.isinf(span) or (int in kinds and any(abs(value) > _MOST_OF_FLOAT for value in values)):
         exact = Fraction(worst), Fraction(best) - Fraction(worst)
-        return Graded([math.floor((Fraction(value) - exact[0]) / exact[1] * MAX_GRADE + HALF) for value in values], HALF)
+        return Graded(
+            [math.floor((Fraction(value) - exact[0]) / exact[1] * MAX_GRADE + HALF) for value in values], HALF
+        )
     return Graded([int((value - worst) / span * 1e6 + 0.5) for value in values], FLOAT)
 
 
