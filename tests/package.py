@@ -1042,13 +1042,20 @@ def package_version(program: str) -> str | None:
     )
 
 
+def python_with_pip() -> str:
+    """A Python of this machine that builds wheels without an index: the one that runs, or the system's."""
+    for python in filter(None, (sys.executable, shutil.which("python3", path=os.defpath))):
+        if peer([python, "-c", "import setuptools, wheel, pip"]).returncode == 0:
+            return python
+    raise Skipped("there is no pip with setuptools and wheel")
+
+
 def package_installed(program: str) -> str | None:
-    """`pip install` of the folder alone, without an index: the package is there with its types, and a library beside
-    it goes along.
+    """`pip install` of the folder alone, without an index: the package is there with its types, and a library beside it
+    goes along in a wheel, which is then of one platform.
     """
-    if peer([sys.executable, "-c", "import pip, setuptools, wheel"]).returncode != 0:
-        raise Skipped("this Python has no pip with setuptools and wheel")
-    pip = [sys.executable, "-m", "pip", "--disable-pip-version-check", "--no-input"]
+    python = python_with_pip()
+    pip = [python, "-m", "pip", "--disable-pip-version-check", "--no-input"]
     how = ["--no-index", "--no-deps", "--no-build-isolation", "--quiet"]
     with tempfile.TemporaryDirectory() as place:
         folder, to = pathlib.Path(place) / "python", pathlib.Path(place) / "site"
@@ -1062,20 +1069,19 @@ table = topk.Table({"x": [1]}, criteria=[topk.criterion("x")])
 print(topk.__version__, topk.core().kind, table.top(1, ["x"]).keys)
 """
         there = {**os.environ, "PYTHONPATH": str(to), "TOPK_PROGRAM": program, "TOPK_LIBRARY": ""}
-        said = subprocess.run(
-            [sys.executable, "-c", code], stdout=subprocess.PIPE, env=there, cwd=place, timeout=SECONDS
-        ).stdout.decode()
+        said = subprocess.run([python, "-c", code], stdout=subprocess.PIPE, env=there, cwd=place, timeout=SECONDS).stdout
         (folder / "topk" / "libtopk.so").write_bytes(b"library")
         made = peer([*pip, "wheel", *how, "--wheel-dir", place, folder])
-        wheels = list(pathlib.Path(place).glob("*.whl"))
-        names = zipfile.ZipFile(wheels[0]).namelist() if wheels else [made.stderr.decode()[-500:]]
-        return first_wrong(
-            [
-                ("what is installed", said, f"{topk.__version__} program [1]\n"),
-                ("its types", (to / "topk" / "py.typed").exists(), True),
-                ("the library in the wheel", "topk/libtopk.so" in names, True),
-            ]
-        )
+        if made.returncode != 0:
+            return f"pip wheel: {made.stderr.decode()[-500:]}"
+        wheel = next(pathlib.Path(place).glob("*.whl"))
+        rows = [
+            ("what is installed", said.decode(), f"{topk.__version__} program [1]\n"),
+            ("its types", (to / "topk" / "py.typed").exists(), True),
+            ("the wheel", wheel.name, f"topk-{topk.__version__}-py3-none-linux_x86_64.whl"),
+            ("the library in it", "topk/libtopk.so" in zipfile.ZipFile(wheel).namelist(), True),
+        ]
+        return first_wrong(rows)
 
 
 def tests() -> Iterator[tuple[str, Callable[[str], str | None]]]:
