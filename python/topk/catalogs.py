@@ -159,7 +159,7 @@ class Catalog:
 
 def write_lists(
     folder: str | os.PathLike[str],
-    objects: array.array[int],
+    objects: Iterable[int],
     keys: Iterable[Any],
     lists: Mapping[str, tuple[array.array[int], bool]],
     progress: Callable[[str], None] = lambda file: None,

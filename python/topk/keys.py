@@ -12,7 +12,7 @@ from topk.limits import MAX_OBJECT
 __all__ = ["checked_keys", "objects_of"]
 
 
-def objects_of(keys: Sequence[Any]) -> array.array[int]:
+def objects_of(keys: Sequence[Any]) -> Sequence[int]:
     """The number of each key. Whole numbers up to 4294967295, and texts that are such numbers, stand for themselves
     where all keys are so; else the keys are numbered from 1, in the order of the rows.
 
@@ -29,7 +29,7 @@ def objects_of(keys: Sequence[Any]) -> array.array[int]:
             numbers = []
         if numbers and 0 <= min(numbers) and max(numbers) <= MAX_OBJECT and list(map(str, numbers)) == list(keys):
             return array.array("I", numbers)
-    return array.array("I", range(1, len(keys) + 1))
+    return range(1, len(keys) + 1)
 
 
 def checked_keys(

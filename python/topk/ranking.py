@@ -66,18 +66,25 @@ def rows_of(lists: Mapping[str, Pairs]) -> dict[str, array.array[int]]:
     return rows
 
 
-def ranked_rows(objects: array.array[int], grades: Sequence[int]) -> array.array[int]:
+def ranked_rows(objects: Sequence[int], grades: Sequence[int]) -> array.array[int]:
     """The rows of two columns, the greatest grade first; of equal grades the one that stands first in the columns.
 
-    >>> ranked_rows(array.array("I", [3, 7, 1]), [850, 900, 850])
-    array('I', [7, 900, 3, 850, 1, 850])
+    >>> ranked_rows([3, 7, 1], [850, 900, 850]), ranked_rows(range(1, 4), [850, 900, 850])
+    (array('I', [7, 900, 3, 850, 1, 850]), array('I', [2, 900, 1, 850, 3, 850]))
     """
-    order = array.array("I", sorted(range(len(grades)), key=grades.__getitem__, reverse=True))
-    column = array.array("I", grades)  # An array is small, so that going about in it is quicker than in a list.
+    order = sorted(range(len(grades)), key=grades.__getitem__, reverse=True)
     rows = array.array("I", bytes(8 * len(order)))
-    rows[0::2] = array.array("I", [objects[place] for place in order])
-    rows[1::2] = array.array("I", [column[place] for place in order])
+    rows[0::2] = _picked(objects, order)
+    rows[1::2] = _picked(grades, order)
     return rows
+
+
+def _picked(column: Sequence[int], places: list[int]) -> array.array[int]:
+    """The numbers of a column at these places."""
+    if isinstance(column, range):
+        return array.array("I", [column.start + place for place in places])
+    numbers = array.array("I", column)  # An array is small, so that going about in it is quicker than in a list.
+    return array.array("I", [numbers[place] for place in places])
 
 
 def line_of(query: str) -> str:

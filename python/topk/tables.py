@@ -89,7 +89,7 @@ class Table:
         self._keys: Sequence[Any] = range(1, self._count + 1) if key is None else checked_keys(self._columns[key], key)
         self._criteria: dict[str, Criterion] = {}
         self._lists: dict[Criterion, RankedList] = {}
-        self._objects: array.array[int] | None = None
+        self._objects: Sequence[int] | None = None
         self._rows: Mapping[int, int] | None = None
         for it in criteria:
             self._add(it)
@@ -186,7 +186,7 @@ class Table:
         return self._keys
 
     @property
-    def objects(self) -> array.array[int]:
+    def objects(self) -> Sequence[int]:
         """The number that stands for each key, in the order of the rows."""
         if self._objects is None:
             self._objects = objects_of(self._keys)
@@ -285,14 +285,13 @@ class Table:
         rounding = rounding_of(
             asked, {name: it.error for name, it in lists.items()}, {name: it.outside for name, it in lists.items()}
         )
-        row_of = self._row_of()
         return named_answer(
             asked,
             given,
             asks,
-            lambda item: self._keys[row_of[item]],
-            lambda name, item: lists[name].grades[row_of[item]] if name in lists and item in row_of else None,
-            lambda name, item: self._columns[used[name].column][row_of[item]],
+            lambda item: self._cell(self._keys, item),
+            lambda name, item: self._cell(lists[name].grades, item) if name in lists else None,
+            lambda name, item: self._cell(self._columns[used[name].column], item),
             rounding,
         )
 
@@ -373,8 +372,10 @@ class Table:
         made._objects, made._rows = (self._objects, self._rows) if kept is None else (None, None)
         return made
 
-    def _row_of(self) -> Mapping[int, int]:
-        """The row of each object."""
+    def _cell(self, column: Sequence[Any], item: int) -> Any:
+        """What a column has for an object's number; None where no row has it."""
+        if isinstance(self.objects, range):
+            return column[self.objects.index(item)] if item in self.objects else None
         if self._rows is None:
-            self._rows = {item: row for row, item in enumerate(self.objects)}
-        return self._rows
+            self._rows = {it: row for row, it in enumerate(self.objects)}
+        return column[self._rows[item]] if item in self._rows else None
