@@ -9,7 +9,7 @@ from typing import Any, Optional
 from topk.certificates import Answer, Certificate, Verdict
 from topk.cores import Core
 from topk.expressions import names_in, spread, value_of
-from topk.faults import TableError
+from topk.faults import NoCore
 from topk.limits import MAX_GRADE
 from topk.questions import Question
 
@@ -169,15 +169,8 @@ def named_answer(
     rows = []
     for item, low, high in given.objects:
         grades = {name: grade_of(name, item) for name in names}
-        known = {name: grade for name, grade in grades.items() if grade is not None}
-        score = value_of(asked.expression, known) if len(known) == len(names) else low
-        if not low <= score <= high:
-            raise TableError(
-                f"the answer's bounds {low} and {high} of the key {key_of(item)!r} don't agree with its score {score}"
-            )
-        rows.append(
-            Row(0, key_of(item), score, {name: value_of_object(name, item) for name in names}, grades, item, low, high)
-        )
+        values = {name: value_of_object(name, item) for name in names}
+        rows.append(Row(0, key_of(item), _score(asked, grades, low, high), values, grades, item, low, high))
     rows.sort(key=lambda row: -row.score)
     return NamedAnswer(
         tuple(dataclasses.replace(row, place=place) for place, row in enumerate(rows, 1)),
@@ -197,6 +190,15 @@ def named_answer(
         core,
         grade_of if rounding else None,
     )
+
+
+def _score(asked: Question, grades: Mapping[str, int | None], low: int, high: int) -> int:
+    """The score of a row with these grades, or the least that is possible where one isn't known."""
+    known = {name: grade for name, grade in grades.items() if grade is not None}
+    score = value_of(asked.expression, known) if len(known) == len(grades) else low
+    if not low <= score <= high:
+        raise NoCore(f"what answered isn't topk: it states {low} and {high} for a row with the score {score}")
+    return score
 
 
 def rounding_of(asked: Question, errors: Mapping[str, Fraction], outside: Mapping[str, int]) -> Rounding:
