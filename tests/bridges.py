@@ -9,6 +9,7 @@ import atexit
 import concurrent.futures
 import contextlib
 import functools
+import itertools
 import json
 import math
 import os
@@ -27,7 +28,7 @@ from collections.abc import Callable, Iterable, Iterator
 from typing import Any, Protocol
 
 from machine import SECONDS, Skipped, needs, no_memory, no_room, over_network, peer
-from nodes import received
+from support import answer, received, refusal
 
 EXAMPLES = pathlib.Path(__file__).resolve().parent.parent / "examples"
 BRIDGES = EXAMPLES / "bridges"
@@ -108,8 +109,8 @@ class Sqlite:
         self.path = os.path.join(place, "a b%20?#.db")
         self.words = (sys.executable, str(BRIDGES / "sqlite.py"), self.path)
         with contextlib.closing(sqlite3.connect(self.path, timeout=SECONDS)) as connection:
-            if sqlite3.sqlite_version_info < (3, 15) or connection.execute("pragma journal_mode = wal").fetchone() != ("wal",):
-                raise Skipped(f"SQLite {sqlite3.sqlite_version} keeps no log beside a file here")
+            if connection.execute("pragma journal_mode = wal").fetchone() != ("wal",):
+                raise AssertionError(f"SQLite {sqlite3.sqlite_version} keeps no log beside a file here")
 
     def do(self, script: str) -> None:
         with contextlib.closing(sqlite3.connect(self.path, timeout=SECONDS)) as connection:
@@ -141,25 +142,24 @@ class Cluster:
         if os.geteuid() == 0:
             user = next((it for it in pwd.getpwall() if it.pw_name in ("postgres", "nobody")), None)
             if user is None:
-                raise Skipped("there is no user postgres, and no nobody")
+                raise AssertionError("there is no user postgres, and no nobody")
             os.chown(self.place, user.pw_uid, user.pw_gid)
             self._as = {"user": user.pw_uid, "group": user.pw_gid, "extra_groups": []}
         atexit.register(self._stop)
         self._run("initdb", "-D", "data", "-U", "topk", "-A", "trust", "-E", "UTF8", "--locale=C", "--no-sync")
         self._run("pg_ctl", "-D", "data", "-l", "log", "-w", "-t", str(SECONDS), "-o", f"-k {self.place} -c listen_addresses= -F", "start")
-        self.bases = 0
+        self.bases = itertools.count(1)
 
     def _run(self, program: str, *words: str) -> None:
         done = self._ended(program, *words)
         if done.returncode != 0:
-            raise Skipped(f"{program} ended with {done.returncode}: {done.stderr[-300:]!r}")
+            raise AssertionError(f"{program} ended with {done.returncode}: {done.stderr[-300:]!r}")
 
     def _ended(self, program: str, *words: str) -> subprocess.CompletedProcess[bytes]:
         return peer([self._programs / program, *words], cwd=self.place, stdout=subprocess.DEVNULL, **self._as)
 
     def _stop(self) -> None:
-        with contextlib.suppress(Skipped):
-            self._ended("pg_ctl", "-D", "data", "-m", "immediate", "stop")
+        self._ended("pg_ctl", "-D", "data", "-m", "immediate", "stop")
         self._folder.cleanup()
 
 
@@ -171,9 +171,9 @@ class Postgres:
     def __init__(self, cluster: Cluster) -> None:
         self._reached = ("psql", "-X", "-q", "-v", "ON_ERROR_STOP=1", "-h", cluster.place, "-U", "topk")
         self._base = "postgres"
-        cluster.bases += 1
-        self.do(f"create database base{cluster.bases}")
-        self._base = f"base{cluster.bases}"
+        name = f"base{next(cluster.bases)}"
+        self.do(f"create database {name}")
+        self._base = name
         self.words = (cluster.python, str(BRIDGES / "postgres.py"), f"host={cluster.place} user=topk dbname={self._base}")
 
     def do(self, script: str) -> None:
@@ -215,7 +215,10 @@ def sqlite() -> Iterator[Base]:
         yield Sqlite(place)
 
 
-@functools.lru_cache
+_STARTING = threading.Lock()
+
+
+@functools.lru_cache(None)
 def cluster() -> Cluster | Skipped:
     """The one cluster of all tests, or why there is none."""
     try:
@@ -227,7 +230,8 @@ def cluster() -> Cluster | Skipped:
 @contextlib.contextmanager
 def postgres() -> Iterator[Base]:
     """A database of its own."""
-    found = cluster()
+    with _STARTING:
+        found = cluster()
     if isinstance(found, Skipped):
         raise found
     yield Postgres(found)
@@ -271,18 +275,6 @@ def body(port: int, target: str) -> Any:
     """What an answer says, or the line of its status."""
     head, _, text = got(port, target).partition(b"\r\n\r\n")
     return json.loads(text) if head.startswith(b"HTTP/1.1 200 OK\r\n") else head.split(b"\r\n")[0].decode()
-
-
-def answer(text: str) -> bytes:
-    """The reply with this body."""
-    return f"HTTP/1.1 200 OK\r\nContent-Type: application/json\r\nContent-Length: {len(text)}\r\nConnection: close\r\n\r\n{text}".encode()
-
-
-def refusal(status: int, reason: str) -> bytes:
-    """The reply without an answer."""
-    allow = "Allow: GET\r\n" if status == 405 else ""
-    length = f"Content-Length: {len(reason) + 1}\r\n"
-    return f"HTTP/1.1 {status} {reason}\r\nContent-Type: text/plain\r\n{allow}{length}Connection: close\r\n\r\n{reason}\n".encode()
 
 
 def first_difference(rows: Iterable[tuple[str, Any, Any]]) -> str | None:

@@ -1,54 +1,57 @@
-"""Tests of the library: the proved archive with the heap of c/heap.c as a shared library, called from this process and from the package
-python/topk."""
+"""Tests of the library: the proved archive with the heap of c/heap.c as a shared library, called from this process and from
+the package python/topk.
+
+`make lib` builds the archive, and so does tests/run.py with --library.
+"""
+from __future__ import annotations
+
 import array
 import ctypes
 import doctest
+import functools
 import importlib
 import os
 import pathlib
 import random
 import re
-import shutil
 import subprocess
 import sys
 import tempfile
 import threading
+from collections.abc import Callable, Iterator
+from types import ModuleType
+from typing import Any
 
 from machine import SECONDS, Skipped, needs, no_memory, no_threads, path_of, peer
 from special import LARGEST, MAX_INPUT, padded_bundle
+from support import REPOSITORY, first_difference
 
 HERE = pathlib.Path(__file__).resolve().parent
-REPOSITORY = HERE.parent
 EXAMPLES = REPOSITORY / "crates" / "examples" / "data"
 ARCHIVE = REPOSITORY / "crates" / "topk_c" / "out" / "libtopk_c.a"
 BUNDLE = b"list A\n1,900\n2,800\n3,100\nlist B\n2,700\n3,600\n1,500\nquery top 1 by sum(A,B) using ta\n"
 BEATEN = (HERE / "cases" / "judge_beaten" / "input").read_bytes()
 GUARD = b"\xa5"
-_places, _loaded = [], {}
+_BUILDING = threading.Lock()
 
 
-def built(heap):
+def built(heap: str) -> str:
     """The path of the shared library over this heap."""
     compiler = path_of("cc", "gcc", "clang")
     if not ARCHIVE.exists():
-        raise Skipped("there is no proved archive: `make lib` builds it")
-    if heap not in _loaded:
-        place = tempfile.TemporaryDirectory()
-        _places.append(place)
-        compile_with(compiler, place.name, "-shared", "-fPIC")
-        path = pathlib.Path(place.name) / "libtopk.so"
-        words = ["-shared", "-fPIC", "-O2", "-o", path, REPOSITORY / heap, "-Wl,--whole-archive", ARCHIVE, "-Wl,--no-whole-archive"]
-        subprocess.run([compiler, *words], check=True, timeout=SECONDS)
-        _loaded[heap] = path
-    return str(_loaded[heap])
+        raise Skipped("there is no proved archive")
+    with _BUILDING:
+        return linked(heap, compiler)[1]
 
 
-def compile_with(compiler, place, *words):
-    """Skips the test where a compiler can't build the least program here."""
-    source = pathlib.Path(place) / "least.c"
-    source.write_text("#include <stdlib.h>\nint main(void) { return 0; }\n", encoding="utf-8")
-    if peer([compiler, *words, "-o", pathlib.Path(place) / "least", source]).returncode != 0:
-        raise Skipped(f"{compiler} builds no program here")
+@functools.lru_cache(None)
+def linked(heap: str, compiler: str) -> tuple[tempfile.TemporaryDirectory[str], str]:
+    """The shared library over this heap, and the folder in which it stands as long as this is kept."""
+    place = tempfile.TemporaryDirectory()
+    path = f"{place.name}/libtopk.so"
+    subprocess.run([compiler, "-shared", "-fPIC", "-O2", "-o", path, REPOSITORY / heap, "-Wl,--whole-archive", ARCHIVE,
+                    "-Wl,--no-whole-archive"], check=True, timeout=SECONDS)
+    return place, path
 
 
 class Row(ctypes.Structure):
@@ -59,14 +62,12 @@ class List(ctypes.Structure):
     _fields_ = [("name", ctypes.c_char_p), ("name_length", ctypes.c_size_t), ("rows", ctypes.POINTER(Row)), ("rows_length", ctypes.c_size_t)]
 
 
-def library(heap="c/heap.c"):
-    path = built(heap)
-    try:
-        found = ctypes.CDLL(path)
-    except OSError as fault:
-        raise Skipped(f"no library can be loaded from here: {fault}") from None
+def library(heap: str = "c/heap.c") -> ctypes.CDLL:
+    """The library, its calls with their types."""
+    found = ctypes.CDLL(built(heap))
     text = [ctypes.c_char_p, ctypes.c_size_t]
-    for call, given in ((found.topk_answer, text), (found.topk_judge, text), (found.topk_answer_rows, [ctypes.POINTER(List), ctypes.c_size_t, *text])):
+    of_rows = [ctypes.POINTER(List), ctypes.c_size_t, *text]
+    for call, given in ((found.topk_answer, text), (found.topk_judge, text), (found.topk_answer_rows, of_rows)):
         call.argtypes = [*given, *text, ctypes.POINTER(ctypes.c_size_t)]
         call.restype = ctypes.c_uint8
     return found
@@ -113,7 +114,7 @@ def whole(call, given):
     return again[0], again[2][:length], (status, length) == again[:2]
 
 
-def module():
+def module() -> ModuleType:
     """The package python/topk over the library that was built here."""
     os.environ["TOPK_LIBRARY"] = built("c/heap.c")
     if "topk" not in sys.modules:
@@ -142,10 +143,11 @@ def compared(program, word, call, given, name, text_given=None):
     wanted = says(program, word, given if text_given is None else text_given)
     if not same:
         return f"{name}: a buffer with room changed the status or the length"
-    return None if (status, text) == wanted else f"{name}: ended with {status} and {text[:200]!r} in place of {wanted[0]} and {wanted[1][:200]!r}"
+    wrong = first_difference(text, wanted[1]) or (f"ended with {status} in place of {wanted[0]}" if status != wanted[0] else None)
+    return wrong and f"{name}: {wrong}"
 
 
-def library_one_as_program(program):
+def library_one_as_program(program: str) -> str | None:
     """Every bundle of the examples: the text of the program, which is the one that stands beside it."""
     answer = library().topk_answer
     for path in sorted(EXAMPLES.glob("*.bundle")):
@@ -157,7 +159,7 @@ def library_one_as_program(program):
     return None
 
 
-def library_rows_as_program(program):
+def library_rows_as_program(program: str) -> str | None:
     """Every bundle of the examples that lists print as, and made ones: the text that the program writes of the printed text."""
     answer = library().topk_answer_rows
     texts = {path.name: path.read_bytes() for path in sorted(EXAMPLES.glob("*.bundle"))}
@@ -172,7 +174,7 @@ def library_rows_as_program(program):
     return None
 
 
-def library_rows_of_no_bundle(program):
+def library_rows_of_no_bundle(program: str) -> str | None:
     """Each way in which rows make no bundle: what the program writes of the printed text; and of names and queries that are no line, by hand."""
     answer = library().topk_answer_rows
     two, query = (b"B", [(2, 700), (1, 500)]), b"top 1 by A using ta"
@@ -198,7 +200,7 @@ def library_rows_of_no_bundle(program):
     return None
 
 
-def library_judge_as_program(program):
+def library_judge_as_program(program: str) -> str | None:
     """Every text of the examples and of the cases of `judge`: the certificates, and what is none."""
     judge = library().topk_judge
     paths = sorted(EXAMPLES.glob("*.text")) + sorted((HERE / "cases").glob("judge_*/input"))
@@ -209,7 +211,7 @@ def library_judge_as_program(program):
     return None
 
 
-def library_short_buffer(program):
+def library_short_buffer(program: str) -> str | None:
     """A buffer with room for all but one byte, and one for one more: the first stays as it was, and of the second the byte more does."""
     for call, given in ((library().topk_answer, BUNDLE), (library().topk_answer_rows, rows_given(*taken_apart(BUNDLE))), (library().topk_judge, BEATEN)):
         status, text, _ = whole(call, given)
@@ -221,7 +223,7 @@ def library_short_buffer(program):
     return None
 
 
-def library_empty_input(program):
+def library_empty_input(program: str) -> str | None:
     found = library()
     if whole(found.topk_answer, b"")[:2] != (10, b"refused bundle 1\n"):
         return f"a bundle of no byte: {whole(found.topk_answer, b'')}"
@@ -230,7 +232,7 @@ def library_empty_input(program):
     return None
 
 
-def library_largest_input(program):
+def library_largest_input(program: str) -> str | None:
     needs(no_memory(LARGEST))
     answer = library().topk_answer
     found = whole(answer, padded_bundle(MAX_INPUT))[:2]
@@ -241,7 +243,7 @@ def library_largest_input(program):
     return None
 
 
-def library_on_threads(program):
+def library_on_threads(program: str) -> str | None:
     """Eight threads at once, each with queries of its own, get what one thread gets."""
     needs(no_threads(20))
     answer = library().topk_answer
@@ -261,7 +263,7 @@ def library_on_threads(program):
     return f"threads {sorted(set(wrong))} got another text" if wrong else None
 
 
-def library_keeps_nothing(program):
+def library_keeps_nothing(program: str) -> str | None:
     """After each of 10,000 calls no block is left."""
     found, out, written, rows = library("tests/failing_heap.c"), ctypes.create_string_buffer(4096), ctypes.c_size_t(), rows_given(*taken_apart(BUNDLE))
     found.test_fail_at(0)
@@ -274,7 +276,7 @@ def library_keeps_nothing(program):
     return None
 
 
-def library_refused_memory(program):
+def library_refused_memory(program: str) -> str | None:
     """Each of the first 200 allocations refused in turn: the whole text or none, and every block is given back."""
     found = library("tests/failing_heap.c")
     bundle = made_bundle(300, 6, b"top 20 by sum(min(l0,l1),wsum(2*l2,3*l3),median(l3,l4,l5)) using ca cost 1 3")
@@ -298,7 +300,7 @@ def library_refused_memory(program):
     return None
 
 
-def library_header(program):
+def library_header(program: str) -> str | None:
     """The header is C and C++, and a program in C is linked with the static library."""
     built("c/heap.c")
     with tempfile.TemporaryDirectory() as place:
@@ -327,26 +329,26 @@ int main(void) {{
         if peer([ended]).returncode != 0:
             return "a program in C got another answer"
         other = path_of("c++", "g++", "clang++")
-        compile_with(other, place, "-x", "c++")
         subprocess.run([other, *strict, "-x", "c++", "-fsyntax-only", source], check=True, timeout=SECONDS)
         return None
 
 
-def python_doctests(program):
-    found = [module(), *(importlib.import_module(f"topk.{path.stem}") for path in sorted((REPOSITORY / "python" / "topk").glob("[a-z]*.py")))]
-    tried = [doctest.testmod(it) for it in found]
+def python_doctests(program: str) -> str | None:
+    topk = module()
+    names = sorted(path.stem for path in (REPOSITORY / "python" / "topk").glob("[a-z]*.py"))
+    tried = [doctest.testmod(it) for it in (topk, *(importlib.import_module(f"topk.{name}") for name in names))]
     failed, attempted = sum(it.failed for it in tried), sum(it.attempted for it in tried)
     return None if failed == 0 and attempted > 0 else f"{failed} of {attempted} doctests fail"
 
 
-def python_page(program):
+def python_page(program: str) -> str | None:
     """The examples of the page on the library."""
     module()
     tried = doctest.testfile(str(REPOSITORY / "docs" / "LIBRARY.md"), module_relative=False)
     return None if tried.failed == 0 and tried.attempted > 0 else f"{tried.failed} of {tried.attempted} examples fail"
 
 
-def python_answers(program):
+def python_answers(program: str) -> str | None:
     """The figures of the page on certificates, by pairs, by two arrays, by a text."""
     topk = module()
     lists = {"A": [(1, 900), (2, 800), (3, 100)], "B": (array.array("I", [2, 3, 1]), array.array("I", [700, 600, 500]))}
@@ -362,7 +364,7 @@ def python_answers(program):
     return None if text == line + beaten.counter else f"{beaten} was read from {text!r}"
 
 
-def python_any_order(program):
+def python_any_order(program: str) -> str | None:
     """Rows in any order are ranked, and rows whose grades never rise stay as they are, ties too: the text is the program's of the bundle."""
     topk = module()
     lists = {"A": [(it, it * 7919 % 101) for it in range(300)], "B": [(it, 1000 - it // 3) for it in range(300)], "C": [(299 - it, 5) for it in range(300)]}
@@ -380,7 +382,7 @@ def python_any_order(program):
     return None if topk.bundle_of(columns, query) == text else "the text of the bundle isn't ranked"
 
 
-def python_refusals(program):
+def python_refusals(program: str) -> str | None:
     """Each kind of error: what it says of itself."""
     topk = module()
     wrong = []
@@ -413,7 +415,7 @@ def python_refusals(program):
     return "; ".join(wrong) or None
 
 
-def python_long_text(program):
+def python_long_text(program: str) -> str | None:
     """A certificate that is longer than the room that the module tries first."""
     topk = module()
     rows = [(it, 1000) for it in range(3000)]
@@ -424,12 +426,13 @@ def python_long_text(program):
     return None if len(found.objects) == 3000 and found.certificate.endswith("\nend\n") else "the certificate isn't whole"
 
 
-def python_numpy(program):
+def python_numpy(program: str) -> str | None:
+    """Arrays of numpy, of several types and strides."""
+    topk = module()
     try:
-        import numpy
+        numpy: Any = importlib.import_module("numpy")
     except ImportError:
         raise Skipped("there is no numpy") from None
-    topk = module()
     wanted = topk.answer({"A": [(7, 900), (4, 850), (3, 7)]}, "top 1 by A using ta")
     objects, grades = numpy.array([3, 7, 4]), numpy.array([7, 900, 850])
     for kind in ("int64", "uint32", "uint16", ">i4"):
@@ -446,7 +449,7 @@ def python_numpy(program):
     return None
 
 
-def tests():
+def tests() -> "Iterator[tuple[str, Callable[[str], str | None]]]":
     """Each test with its name."""
     for test in (library_one_as_program, library_rows_as_program, library_rows_of_no_bundle, library_judge_as_program, library_short_buffer,
                  library_empty_input, library_largest_input, library_on_threads, library_keeps_nothing, library_refused_memory, library_header,

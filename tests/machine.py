@@ -1,8 +1,8 @@
-"""What the machine has: a test that needs what it lacks is skipped by name, and none fails because the machine is slow, busy or small."""
+"""What the machine has: a test is skipped where a peer isn't installed, and fails, by name, where anything else
+lacks."""
 from __future__ import annotations
 
 import contextlib
-import errno
 import functools
 import os
 import resource
@@ -13,19 +13,20 @@ import subprocess
 import tempfile
 import threading
 from collections.abc import Callable, Iterator, Sequence
+from typing import Any
 
-# The most that one program of a test may take. What is right takes a few seconds at most, so a machine that is many times slower has time enough.
-SECONDS = 300
+# The most that one program of a test may take. What is right takes a few seconds at most, but for what waits half a
+# minute for its peer, so a machine that is many times slower has time enough.
+SECONDS = float(os.environ.get("TOPK_TEST_SECONDS", 120))
 # The most files that a test opens at the same time.
 FILES = 12_000
-# What the system says where it has no more of something.
-LACKS = {errno.EMFILE, errno.ENFILE, errno.ENOMEM, errno.ENOSPC, errno.EDQUOT, errno.EAGAIN}
 # Settings of whoever runs the tests that would change what a program does which they run.
-SETTINGS = ("PG", "LC_", "LANG", "MAKE", "MFLAGS", "GNUMAKE", "NODE_", "CURL_", "NGINX", "http_", "https_", "HTTP_", "HTTPS_", "all_", "ALL_")
+SETTINGS = ("PG", "LC_", "LANG", "MAKE", "MFLAGS", "GNUMAKE", "NODE_", "CURL_", "NGINX", "http_", "https_", "HTTP_",
+            "HTTPS_", "all_", "ALL_")
 
 
 class Skipped(Exception):
-    """What this machine lacks."""
+    """Which peer isn't installed, as `there is no nginx`. It has to stand in skips.txt beside the test's name."""
 
 
 def settle() -> None:
@@ -39,22 +40,18 @@ def settle() -> None:
         resource.setrlimit(resource.RLIMIT_NOFILE, (wanted, most))
 
 
-def peer(words: Sequence[object], seconds: float = SECONDS, **more: object) -> subprocess.CompletedProcess:
-    """A program of the machine that has ended. Where it doesn't start or isn't done in time, the test is skipped, and all that it started is ended."""
+def peer(words: Sequence[Any], seconds: float = SECONDS, **more: Any) -> subprocess.CompletedProcess[Any]:
+    """A program of the machine that has ended. Where it isn't done in time, all that it started is ended, and the
+    test fails."""
     how = {"stdin": subprocess.DEVNULL, "stdout": subprocess.PIPE, "stderr": subprocess.PIPE, **more}
-    try:
-        with subprocess.Popen(words, start_new_session=True, **how) as process:
-            try:
-                out, said = process.communicate(timeout=seconds)
-            except subprocess.TimeoutExpired:
-                raise Skipped(f"{words[0]} takes more than {seconds} s") from None
-            finally:
-                if process.poll() is None:
-                    with contextlib.suppress(ProcessLookupError, PermissionError):
-                        os.killpg(process.pid, signal.SIGKILL)
-                    process.kill()
-    except OSError as fault:
-        raise Skipped(f"{words[0]} doesn't start: {fault.strerror}") from None
+    with subprocess.Popen(words, start_new_session=True, **how) as process:
+        try:
+            out, said = process.communicate(timeout=seconds)
+        finally:
+            if process.poll() is None:
+                with contextlib.suppress(ProcessLookupError, PermissionError):
+                    os.killpg(process.pid, signal.SIGKILL)
+                process.kill()
     return subprocess.CompletedProcess(words, process.returncode, out, said)
 
 
@@ -67,9 +64,9 @@ def path_of(*names: str) -> str:
 
 
 def needs(*lacks: str) -> None:
-    """Skips the test where the machine lacks something, which is said by the first text that isn't empty."""
+    """Fails the test where the machine lacks something, which is said by the first text that isn't empty."""
     for lack in filter(None, lacks):
-        raise Skipped(lack)
+        raise AssertionError(lack)
 
 
 @contextlib.contextmanager
@@ -86,7 +83,8 @@ def scratch() -> Iterator[str]:
 def no_loopback() -> str:
     """Why no connection of 127.0.0.1 comes about, or nothing."""
     try:
-        with socket.create_server(("127.0.0.1", 0)) as server, socket.create_connection(server.getsockname(), SECONDS) as link:
+        with socket.create_server(("127.0.0.1", 0)) as server, \
+                socket.create_connection(server.getsockname(), SECONDS) as link:
             accepted, _ = server.accept()
             with accepted:
                 accepted.sendall(b"x")
@@ -116,7 +114,8 @@ def no_threads(count: int) -> str:
 def no_files(count: int) -> str:
     """Why a process may not open so many files, or nothing."""
     most = resource.getrlimit(resource.RLIMIT_NOFILE)[0]
-    return f"a process may open {most} files here, not {count}" if most != resource.RLIM_INFINITY and most < count else ""
+    enough = most == resource.RLIM_INFINITY or most >= count
+    return "" if enough else f"a process may open {most} files here, not {count}"
 
 
 def number_in(path: str, word: str = "") -> int | None:
@@ -151,7 +150,8 @@ def no_room(megabytes: int) -> str:
 
 @contextlib.contextmanager
 def free_port() -> Iterator[int]:
-    """A port at which nobody listens, and which nobody is given meanwhile: a socket is bound to it that never listens, beside which the program's own is."""
+    """A port at which nobody listens, and which nobody is given meanwhile: a socket is bound to it that never listens,
+    beside which the program's own is."""
     with socket.socket() as held:
         held.setsockopt(socket.SOL_SOCKET, socket.SO_REUSEADDR, 1)
         held.bind(("0.0.0.0", 0))
@@ -174,7 +174,7 @@ def may_listen_beside(port: int) -> bool:
 
 
 def over_network(test: Callable[[str], str | None]) -> Callable[[str], str | None]:
-    """A test that is skipped where the machine has no loopback network, or too few threads."""
+    """A test that fails at once where the machine has no loopback network, or too few threads."""
     @functools.wraps(test)
     def tried(program: str) -> str | None:
         needs(no_loopback(), no_threads(100))

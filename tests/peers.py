@@ -1,4 +1,5 @@
-"""Tests of `node` and `serve` with programs that others wrote: curl, nginx as a proxy and as a source, Python's http.server as a source, ab or wrk."""
+"""Tests of `node` and `serve` with programs that others wrote: curl, nginx as a proxy and as a source, Python's
+http.server as a source, ab or wrk."""
 from __future__ import annotations
 
 import contextlib
@@ -11,20 +12,20 @@ import sys
 import tempfile
 from collections.abc import Callable, Iterator
 
-import nodes
 import servers
-from machine import SECONDS, Skipped, path_of, free_port, over_network, peer
-from nodes import DATA, HOTELS, MANY
-from special import differs, run, write
+from machine import SECONDS, Skipped, free_port, over_network, path_of, peer
+from support import (HOTELS, REPOSITORY, differs, first_difference, hotel_lists, node, received, request, run_at, server,
+                     wait_for, worked_out, write)
 
-EXAMPLE = pathlib.Path(__file__).resolve().parent.parent / "examples" / "nginx.conf"
-QUERY = b"top 2 by min(price,rating,centre) using nra\n"
+EXAMPLE = REPOSITORY / "examples" / "nginx.conf"
+QUERY = "top 2 by min(price,rating,centre) using nra"
 # One nginx, in the foreground, that writes nowhere but to its folder.
 ALONE = """daemon off; master_process off; pid {place}/pid; error_log {place}/log;
 events {{ worker_connections 200; }}
 http {{
     access_log off;
-    client_body_temp_path {place}; proxy_temp_path {place}; fastcgi_temp_path {place}; uwsgi_temp_path {place}; scgi_temp_path {place};
+    client_body_temp_path {place}; proxy_temp_path {place}; fastcgi_temp_path {place};
+    uwsgi_temp_path {place}; scgi_temp_path {place};
     {http}
 }}
 """
@@ -38,13 +39,13 @@ def nginx(http: str) -> Iterator[int]:
         raise Skipped("there is no nginx")
     with free_port() as port, tempfile.TemporaryDirectory() as place:
         write(place, "nginx.conf", ALONE.format(place=place, http=http.replace("PORT", str(port))))
-        tried = peer([program, "-t", "-p", place, "-e", f"{place}/log", "-c", f"{place}/nginx.conf"])
+        words = [program, "-p", place, "-e", f"{place}/log", "-c", f"{place}/nginx.conf"]
+        tried = peer([*words, "-t"])
         if tried.returncode != 0:
-            raise Skipped(f"nginx can't run here: {tried.stderr[-200:]!r}")
-        with subprocess.Popen([program, "-p", place, "-e", f"{place}/log", "-c", f"{place}/nginx.conf"], stderr=subprocess.DEVNULL) as process:
+            raise AssertionError(f"nginx can't run here: {tried.stderr[-200:]!r}")
+        with subprocess.Popen(words, stderr=subprocess.DEVNULL) as process:
             try:
-                if not nodes.listens(port, process):
-                    raise Skipped("nginx doesn't listen")
+                wait_for(port, process)
                 yield port
             finally:
                 process.kill()
@@ -52,7 +53,7 @@ def nginx(http: str) -> Iterator[int]:
 
 def from_example(port: int) -> str:
     """What stands in `http` of examples/nginx.conf, before a server at this port, without TLS."""
-    text = re.search(r"^http \{\n(.*)^\}\n", EXAMPLE.read_text(encoding="utf-8"), re.MULTILINE | re.DOTALL)[1]
+    text = EXAMPLE.read_text(encoding="utf-8").partition("\nhttp {\n")[2].partition("\n}\n")[0]
     plain = re.sub(r"^ *ssl_.*\n", "", text, flags=re.MULTILINE).replace("listen 443 ssl;", "listen 127.0.0.1:PORT;")
     return plain.replace("http://127.0.0.1:8000;", f"http://127.0.0.1:{port};")
 
@@ -61,7 +62,7 @@ def said(port: int, request: bytes) -> bytes:
     """What nginx replies to a request. It takes a client that has closed its sending end for one that has left."""
     with socket.create_connection(("127.0.0.1", port), SECONDS) as link:
         link.sendall(request.replace(b"\r\n\r\n", b"\r\nConnection: close\r\n\r\n"))
-        return nodes.received(link)
+        return received(link)
 
 
 def curl(*words: str) -> tuple[int, bytes]:
@@ -71,14 +72,17 @@ def curl(*words: str) -> tuple[int, bytes]:
 
 
 def curl_of_node(program: str) -> str | None:
-    """What curl is told by a node: over HTTP/1.1 and 1.0 the same, and other methods than GET are refused, HEAD without a body."""
+    """What curl is told by a node: over HTTP/1.1 and 1.0 the same, and other methods than GET are refused, HEAD without
+    a body."""
     size, counted = "/lists/price/size", (0, b'{"count":24}')
     status = ("-o", "/dev/null", "-w", "%{http_code} %{size_download}")
-    rows = [((), size, counted), (("--http1.0",), size, counted), (("-H", "Connection: close"), size, counted),
+    rows: list[tuple[tuple[str, ...], str, tuple[int, bytes]]] = [
+            ((), size, counted), (("--http1.0",), size, counted), (("-H", "Connection: close"), size, counted),
             ((), "/lists/price/page?from=0&count=2", (0, b'{"rows":[[123,865000],[112,852500]]}')),
             ((), "/lists/price/grade?object=123", (0, b'{"grade":865000}')), (("-f",), "/lists/rating/size", (22, b"")),
-            (("-f", "-d", "x=1"), size, (22, b"")), (("-f", "-X", "DELETE"), size, (22, b"")), (("-I", *status), size, (0, b"405 0"))]
-    with nodes.node(program, "price", MANY) as (port, _):
+            (("-f", "-d", "x=1"), size, (22, b"")), (("-f", "-X", "DELETE"), size, (22, b"")),
+            (("-I", *status), size, (0, b"405 0"))]
+    with node(program, "price") as (port, _):
         for words, target, wanted in rows:
             given = curl(*words, f"http://127.0.0.1:{port}{target}")
             if given != wanted:
@@ -87,12 +91,14 @@ def curl_of_node(program: str) -> str | None:
 
 
 def curl_of_server(program: str) -> str | None:
-    """What curl is told by a server is what `run` writes, over HTTP/1.1 and 1.0; other methods than GET are refused."""
+    """What curl is told by a server is what becomes of the line, over HTTP/1.1 and 1.0; other methods than GET are
+    refused."""
     asked = ("-G", "--data-urlencode", f"q={servers.LINES[0]}")
-    wanted = (0, servers.body(program, servers.LINES[0]))
+    wanted = (0, servers.body(servers.LINES[0]))
+    status = ("-o", "/dev/null", "-w", "%{http_code}")
     rows = [(asked, wanted), (("--http1.0", *asked), wanted), (("-f", *asked[1:]), (22, b"")),
-            (("-o", "/dev/null", "-w", "%{http_code}", "-I", *asked), (0, b"405")), (("-o", "/dev/null", "-w", "%{http_code}"), (0, b"400"))]
-    with servers.server(program, MANY) as (port, _):
+            ((*status, "-I", *asked), (0, b"405")), (status, (0, b"400"))]
+    with server(program) as (port, _):
         for words, wanted in rows:
             given = curl(*words, f"http://127.0.0.1:{port}/top")
             if given != wanted:
@@ -101,15 +107,20 @@ def curl_of_server(program: str) -> str | None:
 
 
 def behind_nginx(program: str) -> str | None:
-    """Behind the nginx of examples/nginx.conf each line's reply is the server's, also beside many clients that send nothing; nothing else gets there."""
-    with servers.server(program, MANY) as (port, _), nginx(from_example(port)) as front, contextlib.ExitStack() as silent:
+    """Behind the nginx of examples/nginx.conf each line's reply is the server's, also beside many clients that send
+    nothing; nothing else gets there."""
+    with server(program) as (port, _), nginx(from_example(port)) as front, contextlib.ExitStack() as silent:
         for _ in range(100):
             silent.enter_context(socket.create_connection(("127.0.0.1", front), SECONDS))
         for line in servers.LINES:
-            given = said(front, servers.request(line))
-            if not given.startswith(b"HTTP/1.1 200 OK\r\n") or given.partition(b"\r\n\r\n")[2] != servers.body(program, line):
+            given = said(front, request(line))
+            if not given.startswith(b"HTTP/1.1 200 OK\r\n"):
                 return f"{line}: replied {given[:300]!r}"
-        for sent, status in ((b"GET /other HTTP/1.1\r\nHost: h\r\n\r\n", b"404"), (b"POST /top?q= HTTP/1.1\r\nHost: h\r\nContent-Length: 0\r\n\r\n", b"403")):
+            wrong = first_difference(given.partition(b"\r\n\r\n")[2], servers.body(line))
+            if wrong is not None:
+                return f"{line}: {wrong}"
+        head = b" HTTP/1.1\r\nHost: h\r\nContent-Length: 0\r\n\r\n"
+        for sent, status in ((b"GET /other" + head, b"404"), (b"POST /top?q=" + head, b"403")):
             given = said(front, sent)
             if given.split(b" ")[1:2] != [status]:
                 return f"{sent[:20]!r}: replied {given[:300]!r}"
@@ -118,7 +129,7 @@ def behind_nginx(program: str) -> str | None:
 
 def many_requests(program: str) -> str | None:
     """10,000 requests of eight clients through nginx: none fails, by what ab, or wrk, counts."""
-    with servers.server(program, MANY) as (port, _), nginx(from_example(port)) as front:
+    with server(program) as (port, _), nginx(from_example(port)) as front:
         target = f"http://127.0.0.1:{front}/top?q=top%201%20by%20price%20using%20ta"
         if shutil.which("ab"):
             done = peer([path_of("ab"), "-q", "-c", "8", "-n", "10000", "-s", "200", target]).stdout
@@ -129,28 +140,21 @@ def many_requests(program: str) -> str | None:
     return f"counted {done[-600:]!r}" if wrong else None
 
 
-def run_over(program: str, port: int, names: tuple[str, ...], *settings: str) -> str | None:
-    """What is wrong with what `run` writes over the lists that are served at a port, or None: it has to be what it writes over their files."""
-    wanted = run(program, ["run", "catalog.csv"], QUERY, DATA)
-    with tempfile.TemporaryDirectory() as place:
-        write(place, "catalog.csv", "name,place,random\n" + "".join(f"{name},http://127.0.0.1:{port}/lists/{name},no\n" for name in names))
-        return differs(run(program, ["run", "catalog.csv", *settings], QUERY, place), 0, wanted.stdout)
-
-
-def rows_of(name: str) -> list[list[int]]:
-    """The rows of a list of the hotels."""
-    return [list(map(int, line.split(","))) for line in (DATA / "hotels" / f"{name}.csv").read_text(encoding="utf-8").split()[1:]]
+def run_over(program: str, port: int, *settings: str) -> str | None:
+    """What is wrong with what `run` writes over the hotels' lists that are served at a port, or None."""
+    done = run_at(program, dict.fromkeys(HOTELS, port), f"{QUERY}\n".encode(), *settings)
+    return differs(done, 0, worked_out([QUERY], hotel_lists()))
 
 
 @contextlib.contextmanager
 def static_lists() -> Iterator[str]:
     """A folder in which the hotels' lists are files, each list in one page."""
     with tempfile.TemporaryDirectory() as place:
-        for name in HOTELS:
+        for name, rows in hotel_lists().items():
             folder = pathlib.Path(place) / "lists" / name
             folder.mkdir(parents=True)
-            write(folder, "size", f'{{"count":{len(rows_of(name))}}}')
-            write(folder, "page", f'{{"rows":{rows_of(name)}}}')
+            write(folder, "size", f'{{"count":{len(rows)}}}')
+            write(folder, "page", f'{{"rows":{[list(row) for row in rows]}}}')
         pathlib.Path(place).chmod(0o755)
         yield place
 
@@ -158,16 +162,17 @@ def static_lists() -> Iterator[str]:
 def nginx_as_proxy(program: str) -> str | None:
     """A list that nginx passes on from a node is a source."""
     with contextlib.ExitStack() as held:
-        ports = {name: held.enter_context(nodes.node(program, name, MANY))[0] for name in HOTELS}
-        places = "".join(f"location /lists/{name}/ {{ proxy_pass http://127.0.0.1:{port}; }}\n" for name, port in ports.items())
+        ports = {name: held.enter_context(node(program, name))[0] for name in HOTELS}
+        passed = "location /lists/{}/ {{ proxy_pass http://127.0.0.1:{}; }}\n".format
+        places = "".join(passed(name, port) for name, port in ports.items())
         front = held.enter_context(nginx(f"server {{ listen 127.0.0.1:PORT; {places} }}"))
-        return run_over(program, front, HOTELS) or run_over(program, front, HOTELS, "--page", "3", "--workers", "1")
+        return run_over(program, front) or run_over(program, front, "--page", "3", "--workers", "1")
 
 
 def nginx_as_source(program: str) -> str | None:
     """Static files behind nginx are a source."""
     with static_lists() as place, nginx(f"server {{ listen 127.0.0.1:PORT; root {place}; }}") as port:
-        return run_over(program, port, HOTELS)
+        return run_over(program, port)
 
 
 def python_as_source(program: str) -> str | None:
@@ -176,14 +181,14 @@ def python_as_source(program: str) -> str | None:
         words = [sys.executable, "-m", "http.server", str(port), "--bind", "127.0.0.1"]
         with subprocess.Popen(words, cwd=place, stdout=subprocess.DEVNULL, stderr=subprocess.DEVNULL) as process:
             try:
-                if not nodes.listens(port, process):
-                    raise Skipped("Python's http.server doesn't listen")
-                return run_over(program, port, HOTELS)
+                wait_for(port, process)
+                return run_over(program, port)
             finally:
                 process.kill()
 
 
 def tests() -> Iterator[tuple[str, Callable[[str], str | None]]]:
     """Each test with its name."""
-    for test in (curl_of_node, curl_of_server, behind_nginx, many_requests, nginx_as_proxy, nginx_as_source, python_as_source):
+    for test in (curl_of_node, curl_of_server, behind_nginx, many_requests, nginx_as_proxy, nginx_as_source,
+                 python_as_source):
         yield f"peers_{test.__name__}", over_network(test)

@@ -1,5 +1,6 @@
-"""Tests of queries that share sources on threads: a slow source beside fast ones, one that fails while a worker serves it, as many workers and sources as
-there may be, how often threads sleep and what memory they take, and a system that makes no thread.
+"""Tests of queries that share sources on threads: a slow source beside fast ones, one that fails while a worker serves
+it, as many workers and sources as there may be, how often threads sleep and what memory they take, and a system that
+makes no thread.
 """
 from __future__ import annotations
 
@@ -7,19 +8,16 @@ import os
 import pathlib
 import random
 import re
-import subprocess
 import sys
 import tempfile
 import threading
 import time
-from collections.abc import Callable, Iterator
+from collections.abc import Callable, Iterator, Sequence
 
-import bridges
-import hosts
-from hosts import B_ENDS, Reset, answered
-from machine import SECONDS, Skipped, needs, no_memory, no_room, no_threads, over_network
-from special import catalog, differs, run, write
-from starving import built
+from hosts import B_ENDS, LISTS, answered
+from machine import SECONDS, needs, no_memory, no_room, no_threads, over_network
+from support import (Done, Lists, Reset, built, catalog, differs, host, list_text, refusal, run, run_at, shown, worked_out,
+                     write, write_lists)
 
 # The most lists that a query names here.
 NAMED = 8
@@ -35,7 +33,7 @@ end
 """
 LINES = b"top 2 by A using nra\ntop 3 by B using nra\n"
 APART = ("--workers", "2", "--page", "1", "--ahead", "0")
-FAILED = bridges.refusal(500, "Internal Server Error")
+FAILED = refusal(500, "Internal Server Error")
 
 # A process begins with the memory of who starts it, as the system counts: so a small one starts the program.
 MEASURED = """
@@ -46,7 +44,8 @@ print(os.waitstatus_to_exitcode(status), used.ru_maxrss, file=sys.stderr)
 
 
 def meanwhile(program: str, last: Callable[[], bytes], status: int, a_ends: bytes) -> str | None:
-    """What is wrong with a run in which each call of A takes 10 ms, and its second page comes only once B was read to its end, as this says; or None."""
+    """What is wrong with a run in which each call of A takes 10 ms, and its second page comes only once B was read to
+    its end, as this says; or None."""
     read = threading.Event()
 
     def reply(target: str, number: int) -> bytes:
@@ -59,8 +58,9 @@ def meanwhile(program: str, last: Callable[[], bytes], status: int, a_ends: byte
             return answered(target)
         return last() if read.wait(SECONDS / 3) else b""
 
-    with hosts.node(reply) as (port, _):
-        return differs(hosts.run_at(program, dict.fromkeys(hosts.LISTS, port), LINES, *APART), status, a_ends + B_ENDS)
+    with host(reply) as served:
+        done = run_at(program, dict.fromkeys(LISTS, served.port), LINES, *APART)
+        return differs(done, status, a_ends + B_ENDS)
 
 
 def slow_beside_fast(program: str) -> str | None:
@@ -73,69 +73,68 @@ def fails_while_served(program: str) -> str | None:
     def broken() -> bytes:
         raise Reset
 
-    for last, refusal in ((broken, b"Failed"), (lambda: FAILED, b"Garbled"), (lambda: b"HTTP/1.1 200", b"Garbled")):
-        wrong = meanwhile(program, last, 1, b"refused 1 %s A\n" % refusal)
+    for last, name in ((broken, b"Failed"), (lambda: FAILED, b"Garbled"), (lambda: b"HTTP/1.1 200", b"Garbled")):
+        wrong = meanwhile(program, last, 1, b"refused 1 %s A\n" % name)
         if wrong is not None:
-            return f"{refusal.decode()}: {wrong}"
+            return f"{name.decode()}: {wrong}"
     return None
 
 
 def one_failure(program: str) -> str | None:
-    """One failed call refuses at most as many lines as there are workers, by its name; every other line over the same source is answered."""
+    """One failed call refuses at most as many lines as there are workers, by its name; every other line over the same
+    source is answered."""
     workers, count = 8, 24
+    lines = b"top 2 by sum(A,B) using ta\n" * count
     for number in (2, 3, 4) * 4:
-        with hosts.node(lambda target, made: FAILED if target[7] == "A" and made == number else answered(target)) as (port, _):
-            done = hosts.run_at(program, dict.fromkeys(hosts.LISTS, port), b"top 2 by sum(A,B) using ta\n" * count, "--workers", str(workers), "--page", "1")
+        with host(lambda target, made: FAILED if target[7] == "A" and made == number else answered(target)) as served:
+            ports = dict.fromkeys(LISTS, served.port)
+            done = run_at(program, ports, lines, "--workers", str(workers), "--page", "1")
         refused = re.findall(rb"^refused .*$", done.stdout, re.MULTILINE)
-        ends = {re.sub(rb"\d+", b"N", it, count=1) for it in refused} | set(re.findall(rb"^answer .*$", done.stdout, re.MULTILINE))
+        answers = re.findall(rb"^answer .*$", done.stdout, re.MULTILINE)
+        ends = {re.sub(rb"\d+", b"N", it, count=1) for it in refused} | set(answers)
         if len(refused) > workers or not ends <= {b"refused N Garbled A", b"answer 2 1500 1500", b"answer 1 1400 1400"}:
             return f"call {number}: {refused!r}, {ends!r}"
         if done.stdout.count(b"\nend\n") + len(refused) != count or done.returncode != (1 if refused else 0):
-            return f"call {number}: ended with {done.returncode}, {len(refused)} lines refused, wrote {done.stdout[:300]!r}"
+            return f"call {number}: ended with {done.returncode}, {len(refused)} refused, wrote {shown(done.stdout)}"
     return None
 
 
-def made_lists(place: str, names: list[str], rows: int) -> dict[str, dict[int, int]]:
-    """Writes a catalog of these lists with so many rows each, of which no two have one grade, and their files; the grades of each."""
+def made_lists(names: Sequence[str], rows: int) -> Lists:
+    """Lists of so many rows each, of which no two have one grade."""
     made, lists = random.Random(2026), {}
-    write(place, "catalog.csv", catalog(names))
     for name in names:
-        lists[name] = dict(zip(made.sample(range(rows), rows), sorted(made.sample(range(1_000_000), rows), reverse=True)))
-        write(place, f"{name}.csv", "".join(f"{item},{grade}\n" for item, grade in lists[name].items()))
+        grades = sorted(made.sample(range(1_000_000), rows), reverse=True)
+        lists[name] = list(zip(made.sample(range(rows), rows), grades))
     return lists
 
 
-def line_of(names: list[str], number: int) -> tuple[list[str], str]:
-    """The lists that the line with a number names, and the line."""
+def line_of(names: Sequence[str], number: int) -> str:
+    """The line with a number: it names some of the lists."""
     some = [names[(number * 5 + it) % len(names)] for it in range(min(len(names), NAMED))]
-    return some, f"top 3 by sum({','.join(some)}) using {('ta', 'nra', 'ca', 'fa')[number % 4]}\n"
+    return f"top 3 by sum({','.join(some)}) using {('ta', 'nra', 'ca', 'fa')[number % 4]}"
 
 
 def workers_and_sources(program: str) -> str | None:
-    """1, 2, 8 and 32 workers over 1, 4 and 64 sources write one text, and its answers are those of adding up."""
+    """1, 2, 8 and 32 workers over 1, 4 and 64 sources write what the lines come to."""
     needs(no_threads(200))
     for count in (1, 4, 64):
         names = [f"s{it}" for it in range(count)]
+        lists, lines = made_lists(names, 300), [line_of(names, it) for it in range(64)]
+        wanted, text = worked_out(lines, lists), "\n".join(lines).encode()
         with tempfile.TemporaryDirectory() as place:
-            lists = made_lists(place, names, 300)
-            lines = [line_of(names, it) for it in range(64)]
-            text = "".join(line for _, line in lines).encode()
-            done = {it: run(program, ["run", "catalog.csv", "--workers", str(it), "--page", "3"], text, place) for it in (1, 2, 8, 32)}
-        for workers, one in done.items():
-            wrong = differs(one, 0, done[1].stdout)
-            if wrong is not None:
-                return f"{workers} workers over {count} sources: {wrong}"
-        for (some, line), certificate in zip(lines, done[1].stdout.split(b"\nend\n")):
-            sums = {item: sum(lists[name][item] for name in some) for item in range(300)}
-            found = {int(it) for it in re.findall(rb"^answer (\d+) ", certificate, re.MULTILINE)}
-            if found != set(sorted(sums, key=sums.get)[-3:]):
-                return f"{count} sources, {line.strip()}: answered {found}"
+            write_lists(place, lists)
+            for workers in (1, 2, 8, 32):
+                words = ["run", "catalog.csv", "--workers", str(workers), "--page", "3"]
+                wrong = differs(run(program, words, text, place), 0, wanted)
+                if wrong is not None:
+                    return f"{workers} workers over {count} sources: {wrong}"
     return None
 
 
-def before(program: str, words: list[str], data: bytes, place: str, **settings: str) -> subprocess.CompletedProcess:
+def before(program: str, words: Sequence[str], data: bytes, place: str, **settings: str) -> Done[bytes]:
     """A run of the program with what sharing.c does."""
-    return run(program, words, data, place, env=dict(os.environ, LD_PRELOAD=os.path.join(place, "sharing.so"), **settings))
+    env = dict(os.environ, LD_PRELOAD=os.path.join(place, "sharing.so"), **settings)
+    return run(program, words, data, place, env=env)
 
 
 def without_threads(program: str) -> str | None:
@@ -144,63 +143,66 @@ def without_threads(program: str) -> str | None:
     names = ["A", "B", "C", "D"]
     with tempfile.TemporaryDirectory() as place:
         built(place, "sharing")
-        made_lists(place, names, 200)
-        lines = "".join(line_of(names, it)[1] for it in range(12)).encode()
+        lists, lines = made_lists(names, 200), [line_of(names, it) for it in range(12)]
+        write_lists(place, lists)
+        wanted, text = worked_out(lines, lists), "\n".join(lines).encode()
         words = ["run", "catalog.csv", "--workers", "4", "--page", "2"]
-        wanted = run(program, words, lines, place)
         for number in range(1, 12):
-            wrong = differs(before(program, words, lines, place, SHARING_THREADS=str(number)), 0, wanted.stdout)
+            wrong = differs(before(program, words, text, place, SHARING_THREADS=str(number)), 0, wanted)
             if wrong is not None:
                 return f"without the thread {number}: {wrong}"
-    return differs(wanted, 0)
+    return None
 
 
 def few_sleeps(program: str) -> str | None:
-    """A line of 25,000 accesses makes fewer than 200 calls by which a thread sleeps or wakes another, at least in one of some runs beside other work."""
+    """A line of 25,000 accesses makes fewer than 200 calls by which a thread sleeps or wakes another, at least in one
+    of some runs beside other work."""
     needs(no_threads(50), no_room(100))
     made = run(program, ["make", "--start", "7", "--count", "20000", "--lists", "4"]).stdout.decode()
     lists = dict(section.split("\n", 1) for section in made.split("list ")[1:])
     with tempfile.TemporaryDirectory() as place:
         built(place, "sharing")
-        write(place, "catalog.csv", catalog(lists))
+        write(place, "catalog.csv", catalog(list(lists)))
         for name, text in lists.items():
             write(place, f"{name}.csv", text)
-        counts = []
+        line, counts = f"top 10 by sum({','.join(lists)}) using ta\n".encode(), []
         for _ in range(10):
             count = pathlib.Path(place, "count")
             count.write_bytes(bytes(8))
-            wrong = differs(before(program, ["run", "catalog.csv"], f"top 10 by sum({','.join(lists)}) using ta\n".encode(), place, SHARING_COUNT=str(count)), 0)
+            wrong = differs(before(program, ["run", "catalog.csv"], line, place, SHARING_COUNT=str(count)), 0)
             if wrong is not None:
                 return wrong
             counts.append(int.from_bytes(count.read_bytes(), "little"))
             if 0 < counts[-1] < 200:
                 return None
-    if max(counts) == 0:
-        raise Skipped("no call is counted here")
     return f"made {counts} calls"
 
 
 def peak(program: str, place: str, lines: bytes, workers: int) -> tuple[int, int]:
     """How a run ended, and the most memory that it had, in MB."""
-    done = run(sys.executable, ["-c", MEASURED, program, "run", "catalog.csv", "--workers", str(workers)], lines, place)
+    words = ["-c", MEASURED, program, "run", "catalog.csv", "--workers", str(workers)]
+    done = run(sys.executable, words, lines, place)
     status, kilobytes = done.stderr.split()[-2:]
     return int(status), int(kilobytes) >> 10
 
 
 def memory(program: str) -> str | None:
-    """32 workers over 64 sources of 20,000 rows take less than 150 MB more than one, and those over one of the sources less than half of it all."""
+    """32 workers over 64 sources of 20,000 rows take less than 150 MB more than one, and those over one of the sources
+    less than half of it all."""
     needs(no_threads(200), no_memory(1500), no_room(100))
     names, rows = [f"s{it}" for it in range(64)], 20_000
     with tempfile.TemporaryDirectory() as place:
         write(place, "catalog.csv", catalog(names))
         for shift, name in enumerate(names):
-            write(place, f"{name}.csv", "".join(f"{(it * 7919 + shift * 313) % rows},{1_000_000 - 50 * it}\n" for it in range(rows)))
+            made = (((it * 7919 + shift * 313) % rows, 1_000_000 - 50 * it) for it in range(rows))
+            write(place, f"{name}.csv", list_text(made))
         over_all = "".join(f"top 3 by sum({names[it]},{names[-1 - it]}) using nra\n" for it in range(64)).encode()
         (first, one), (second, many) = (peak(program, place, over_all, it) for it in (1, 32))
         third, few = peak(program, place, b"top 3 by s0 using nra\n" * 64, 32)
     if (first, second, third) != (0, 0, 0):
         return f"ended with {first}, {second}, {third}"
-    return None if many < one + 150 and 2 * few < many else f"took {one} MB with one worker, {many} with 32, and {few} over one source"
+    enough = many < one + 150 and 2 * few < many
+    return None if enough else f"took {one} MB with one worker, {many} with 32, and {few} over one source"
 
 
 def tests() -> Iterator[tuple[str, Callable[[str], str | None]]]:

@@ -17,12 +17,11 @@ import time
 import urllib.parse
 
 from machine import Skipped, needs, no_memory, no_threads, path_of, peer, scratch
-from special import run
+from support import REPOSITORY, run
 
-ROOT = pathlib.Path(__file__).resolve().parent.parent
-VIEW = ROOT / "examples" / "view"
-BUNDLES = ROOT / "crates" / "examples" / "data"
-CASES = ROOT / "tests" / "cases"
+VIEW = REPOSITORY / "examples" / "view"
+BUNDLES = REPOSITORY / "crates" / "examples" / "data"
+CASES = REPOSITORY / "tests" / "cases"
 BROWSERS = ("chromium", "chromium-browser", "google-chrome", "chrome")
 EMPTY = {"area", "base", "br", "col", "hr", "img", "input", "link", "meta", "source", "wbr"}
 SUMS = ("cost", "depth", "rows not read", "grades never known")
@@ -234,7 +233,7 @@ def browser():
         try:
             page.begin()
         except (EOFError, BrokenPipeError):
-            raise Skipped(f"{program} ends before it answers") from None
+            raise AssertionError(f"{program} ends before it answers") from None
         yield page
 
 
@@ -258,7 +257,7 @@ def view_logic(_):
     node = path_of("node")
     version = peer([node, "--version"]).stdout.decode()
     if not re.match(r"v(2[0-9]|[3-9][0-9])\.", version):
-        raise Skipped(f"node {version.strip()} is older than 20")
+        raise Skipped("there is no node of version 20 or later")
     done = peer([node, "--test", *sorted(map(str, VIEW.glob("*.test.js")))])
     if done.returncode == 0:
         return None
