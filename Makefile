@@ -62,15 +62,14 @@ wheel:
 	python3 -m pip wheel --no-index --no-deps --no-build-isolation --quiet --wheel-dir c/out ./python
 	rm -rf python/build python/topk.egg-info
 
-# What `.ci/run` does, with the library built in between, so that its tests run too: the gate, and the program that it built, as a process with
-# words, streams, files, hosts and peers.
+# What `.ci/run` does: the gate, the library where a C compiler is there, and the program and the library as processes with words, streams, files,
+# hosts and peers.
 test:
 	rt ci
-	cd crates/topk_c && rt lib
-	python3 tests/run.py
+	python3 tests/run.py --library
 
-# The wrong bodies that the gate doesn't try: the prover has to refuse each. More than an hour; of one crate some minutes, as in
-# `make wrong-bodies CRATES=query_run`.
+# The wrong bodies that the gate doesn't try: the prover has to refuse each, on a copy of the tree. More than an hour; of one crate some minutes, as
+# in `make wrong-bodies CRATES=query_run`. What was refused on this text isn't tried again, but with `CRATES=--anew`.
 wrong-bodies:
 	python3 tests/wrong_bodies.py $(CRATES)
 
