@@ -83,7 +83,7 @@ bench: topk
 	bench/bench.py
 	bench/files.py
 	cd crates/bench_http && rt run < stdin
-	bench/http.py
+	bench/responses.py
 	bench/nodes.py
 	bench/delayed.py
 	bench/bridges.py

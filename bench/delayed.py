@@ -6,6 +6,8 @@ Use, from anywhere, with the program at ./topk (`make topk`) or the place given:
 The lists are a made table of 20,000 objects, each served by `topk node`. Of each query it prints how many calls each list had, the most calls of which
 each came after the one before it, and the seconds beside those of a plain client that makes the calls of the busiest list again.
 """
+from __future__ import annotations
+
 import argparse
 import contextlib
 import pathlib
@@ -14,17 +16,19 @@ import socketserver
 import tempfile
 import threading
 import time
+from collections.abc import Iterable, Iterator
 
-from nodes import asked, made_table, run, served
+from nodes import asked, at_port, catalog_of, made_table, run, served
+
 
 
 @contextlib.contextmanager
-def delayed(port, seconds):
+def delayed(port: int, seconds: float) -> Iterator[tuple[int, list[tuple[float, float, str]]]]:
     """A port behind which a node is so far away, and what it was asked for with the moments at which each call came and went."""
-    calls = []
+    calls: list[tuple[float, float, str]] = []
 
     class Link(socketserver.StreamRequestHandler):
-        def handle(self):
+        def handle(self) -> None:
             came, head = time.monotonic(), self.rfile.readline()
             while (line := self.rfile.readline()) not in (b"\r\n", b""):
                 head += line
@@ -44,16 +48,16 @@ def delayed(port, seconds):
         server.shutdown()
 
 
-def one_after_another(calls):
+def one_after_another(calls: Iterable[tuple[float, float, str]]) -> int:
     """The most calls of which each came when the one before it had gone."""
-    count, last = 0, 0
+    count, last = 0, 0.0
     for came, gone, _ in sorted(calls, key=lambda call: call[1]):
         if came >= last:
             count, last = count + 1, gone
     return count
 
 
-def again(port, targets):
+def again(port: int, targets: Iterable[str]) -> float:
     """Seconds of calls that are made one after another."""
     begun = time.monotonic()
     for target in targets:
@@ -61,7 +65,8 @@ def again(port, targets):
     return time.monotonic() - begun
 
 
-def main():
+def main() -> None:
+    """Prints a line for each query."""
     parser = argparse.ArgumentParser(description=__doc__, formatter_class=argparse.RawDescriptionHelpFormatter)
     parser.add_argument("program", nargs="?", type=pathlib.Path, default="topk")
     parser.add_argument("rows", nargs="?", type=int, default=20_000)
@@ -69,10 +74,11 @@ def main():
     given = parser.parse_args()
     program, rows, seconds = str(given.program.resolve()), given.rows, given.milliseconds / 1000
     with tempfile.TemporaryDirectory() as folder, contextlib.ExitStack() as nodes:
-        near = nodes.enter_context(served(program, made_table(program, rows, pathlib.Path(folder)), pathlib.Path(folder)))
+        names = made_table(program, rows, pathlib.Path(folder))
+        near = nodes.enter_context(served(program, names, pathlib.Path(folder)))
         far = {name: nodes.enter_context(delayed(port, seconds)) for name, port in near.items()}
         catalog = pathlib.Path(folder) / "far.csv"
-        catalog.write_text("name,place,random\n" + "".join(f"{name},http://127.0.0.1:{port}/lists/{name},yes\n" for name, (port, _) in far.items()))
+        catalog.write_text(catalog_of({name: at_port(port, name) for name, (port, _) in far.items()}))
         for algorithm, words in (("ta", ()), ("nra", ()), ("nra", ("--ahead", "0")), ("ca cost 1 5", ())):
             for _, calls in far.values():
                 calls.clear()
@@ -82,8 +88,8 @@ def main():
             in_turn = one_after_another([call for _, calls in far.values() for call in calls])
             port, calls = far[max(counts, key=counts.get)]
             plain = again(port, [target for _, _, target in list(calls)])
-            print(f"{' '.join([algorithm, *words])}: {stop}; calls {list(counts.values())}, {in_turn} one after another; {took:.2f} s, "
-                  f"the busiest list's alone {plain:.2f} s, ratio {took / plain:.2f}")
+            print(f"{' '.join([algorithm, *words])}: {stop}; calls {list(counts.values())}, "
+                  f"{in_turn} one after another; {took:.2f} s, the busiest list's alone {plain:.2f} s, ratio {took / plain:.2f}")
 
 
 if __name__ == "__main__":

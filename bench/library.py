@@ -1,7 +1,8 @@
 #!/usr/bin/env python3
 """How long an answer takes from Python over lists in memory, beside the program's `one` on the same bundle.
 
-Use, after `make lib` and with a built program:  bench/library.py [--program ./topk] [--lists 4] [--count 20000] [--algorithms ta,nra,ca] [--rounds 20]
+Use, after `make lib` and with a built program:
+    bench/library.py [--program ./topk] [--lists 4] [--count 20000] [--algorithms ta,nra,ca] [--rounds 20]
 
 The lists are those that the program's `make` writes, as two arrays of 32 bits each: of numpy, or of the module array where numpy isn't there.
 Milliseconds are those of the processor, the least of the rounds in turn; those of the program have its start and its reading in them. Of an answer from
@@ -9,32 +10,46 @@ Python, `arrays` is the putting together of the rows, `library` the call and `pa
 way of a bundle's text, of which `text` is the making of it.
 """
 
+from __future__ import annotations
+
 import argparse
 import array
+import importlib
+import importlib.util
 import pathlib
 import resource
 import subprocess
 import sys
 import time
+from collections.abc import Callable, Sequence
+from types import ModuleType
+from typing import Any, Optional
 
 HERE = pathlib.Path(__file__).resolve().parent
-sys.path.insert(0, str(HERE.parent / "python"))
-import topk  # noqa: E402
-
-try:
-    import numpy
-except ImportError:
-    numpy = None
+START = 1
 
 
-def column(numbers):
+def module() -> ModuleType:
+    """python/topk.py, which finds the library that `make lib` has built."""
+    sys.path.insert(0, str(HERE.parent / "python"))
+    return importlib.import_module("topk")
+
+
+def numpy() -> Optional[Any]:
+    """The module numpy, where it is installed."""
+    return importlib.import_module("numpy") if importlib.util.find_spec("numpy") else None
+
+
+def column(numbers: Sequence[int]) -> Any:
     """Numbers of 32 bits as an array."""
-    return array.array("I", numbers) if numpy is None else numpy.array(numbers, dtype="uint32")
+    found = numpy()
+    return array.array("I", numbers) if found is None else found.array(numbers, dtype="uint32")
 
 
-def lists_in(text):
+def lists_in(text: bytes) -> dict[str, tuple[Any, ...]]:
     """The lists of a bundle's sections, each as two arrays under its name."""
-    lists, rows = {}, []
+    lists: dict[str, list[tuple[int, ...]]] = {}
+    rows: list[tuple[int, ...]] = []
     for line in text.decode().splitlines():
         if line.startswith("list "):
             rows = lists.setdefault(line[5:], [])
@@ -43,7 +58,7 @@ def lists_in(text):
     return {name: tuple(map(column, zip(*rows))) for name, rows in lists.items()}
 
 
-def seconds():
+def seconds() -> float:
     """The seconds of the processor that this process and those that it waited for have taken."""
     ended = resource.getrusage(resource.RUSAGE_CHILDREN)
     return time.process_time() + ended.ru_utime + ended.ru_stime
@@ -52,10 +67,10 @@ def seconds():
 class Clock:
     """The least time that each of several things took."""
 
-    def __init__(self):
-        self.least = {}
+    def __init__(self) -> None:
+        self.least: dict[str, float] = {}
 
-    def call(self, name, work, *given):
+    def call(self, name: str, work: Callable[..., Any], *given: Any) -> Any:
         """What the work gives, timed under this name."""
         began = seconds()
         result = work(*given)
@@ -63,45 +78,55 @@ class Clock:
         self.least[name] = min(took, self.least.get(name, took))
         return result
 
-    def watch(self, module, function, name):
+    def watch(self, module: ModuleType, function: str, name: str) -> None:
         """Times each call of a module's function under this name."""
         work = getattr(module, function)
         setattr(module, function, lambda *given: self.call(name, work, *given))
 
 
-def written(program, words, text):
+def written(program: str, words: Sequence[str], text: bytes) -> bytes:
     """What the program writes of an input."""
     return subprocess.run([program, *words], input=text, stdout=subprocess.PIPE, check=True).stdout
 
 
-def main():
-    parser = argparse.ArgumentParser(description=__doc__.splitlines()[0])
+def measured(topk: ModuleType, program: str, made: bytes, query: str, rounds: int) -> dict[str, float]:
+    """The least seconds of an answer from Python and of its parts, by rows and by text, and of the program."""
+    lists, bundle, clock, by_text = lists_in(made), made + f"query {query}\n".encode(), Clock(), Clock()
+    kept = {function: getattr(topk, function) for function in ("_rows_of", "_called", "_answered")}
+    for function, name in zip(kept, ("arrays", "library", "parts")):
+        clock.watch(topk, function, name)
+    for _ in range(rounds):
+        text = clock.call("program", written, program, ["one"], bundle)
+        answer = clock.call("answer", topk.answer, lists, query)
+        assert answer.certificate.encode() == text
+    for function, work in kept.items():
+        setattr(topk, function, work)
+    for _ in range(rounds):
+        way = by_text.call("by text", lambda: topk.answer_bundle(by_text.call("text", topk.bundle_of, lists, query)))
+        assert way == answer
+    return {**clock.least, **by_text.least}
+
+
+def main() -> None:
+    """Prints a line for each algorithm."""
+    parser = argparse.ArgumentParser(description="How long an answer takes from Python.")
     parser.add_argument("--program", default="./topk")
     parser.add_argument("--lists", type=int, default=4)
     parser.add_argument("--count", type=int, default=20_000)
     parser.add_argument("--algorithms", default="ta,nra,ca")
     parser.add_argument("--rounds", type=int, default=20)
-    arguments = parser.parse_args()
-    made = written(arguments.program, ["make", "1", str(arguments.count), str(arguments.lists)], b"")
-    lists = lists_in(made)
-    kind = "array" if numpy is None else f"numpy {numpy.__version__}"
-    print(f"{arguments.lists} lists of {arguments.count} rows, columns of {kind}; milliseconds")
-    for algorithm in arguments.algorithms.split(","):
-        query = f"top 10 by sum({','.join(lists)}) using {algorithm}"
-        bundle = made + f"query {query}\n".encode()
-        clock = Clock()
-        for function, name in (("_rows_of", "arrays"), ("_called", "library"), ("_answered", "parts")):
-            clock.watch(topk, function, name)
-        for _ in range(arguments.rounds):
-            text = clock.call("program", written, arguments.program, ["one"], bundle)
-            answer = clock.call("answer", topk.answer, lists, query)
-            assert answer.certificate.encode() == text
-        by_rows, by_text = dict(clock.least), Clock()
-        for _ in range(arguments.rounds):
-            assert by_text.call("by text", lambda: topk.answer_bundle(by_text.call("text", topk.bundle_of, lists, query))) == answer
-        figures = {**by_rows, **by_text.least}
+    given = parser.parse_args()
+    words = ["make", "--start", str(START), "--count", str(given.count), "--lists", str(given.lists)]
+    made, topk, found = written(given.program, words, b""), module(), numpy()
+    kind = "array" if found is None else f"numpy {found.__version__}"
+    print(f"{given.lists} lists of {given.count} rows, columns of {kind}; milliseconds")
+    names = ",".join(line[5:].decode() for line in made.splitlines() if line.startswith(b"list "))
+    for algorithm in given.algorithms.split(","):
+        query = f"top {min(10, given.count)} by sum({names}) using {algorithm}"
+        figures = measured(topk, given.program, made, query, given.rounds)
         shown = "  ".join(f"{name} {1000 * took:.1f}" for name, took in figures.items())
         print(f"{algorithm}: {shown}  ratio {figures['answer'] / figures['program']:.2f}")
 
 
-main()
+if __name__ == "__main__":
+    main()

@@ -109,7 +109,7 @@ def files_and_hosts(program: str) -> str | None:
 
 # A call of a list that fails, in which way, and what becomes of the one line then: None where the call isn't made.
 FAULTS = {
-    ("A", "page", 1): "A", ("A", "page", 2): "A", ("A", "grade", 1): "A", ("A", "grade", 2): "A", ("A", "page", 3): None,
+    ("A", "page", 1): "A", ("A", "page", 2): "A", ("A", "page", 3): None, ("A", "grade", 1): "A", ("A", "grade", 2): "A",
     ("B", "page", 1): "B", ("B", "page", 2): "B", ("B", "grade", 1): "B",
 }
 WAYS: dict[str, tuple[bytes | type[Reset], str]] = {

@@ -52,7 +52,7 @@ PROGRAM = HERE.parent / "crates" / "topk" / "out" / "topk"
 NO_TESTS = {"run", "support", "machine"}
 # Tests that wait most of their time, for what comes only after half a minute or a whole one. They begin first, on
 # threads beside the others; who ends the run from outside waits for them too.
-WAITING = {"servers_given_up", "bad_hosts_server_over_silence", "bad_hosts_silent"}
+WAITING = {"servers_given_up", "bad_hosts_server_over_silence", "bad_hosts_silent", "edges_dial_gives_up"}
 # So many tests run at the same time, beside those that wait; fewer where there are fewer processors.
 AT_ONCE = 3
 # So many tests may hang before no other begins.

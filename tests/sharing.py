@@ -119,7 +119,7 @@ def workers_and_sources(program: str) -> str | None:
     needs(no_threads(200))
     for count in (1, 4, 64):
         names = [f"s{it}" for it in range(count)]
-        lists, lines = made_lists(names, 300), [line_of(names, it) for it in range(64)]
+        lists, lines = made_lists(names, 100), [line_of(names, it) for it in range(64)]
         wanted, text = worked_out(lines, lists), "\n".join(lines).encode()
         with tempfile.TemporaryDirectory() as place:
             write_lists(place, lists)

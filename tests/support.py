@@ -150,7 +150,13 @@ def worked_out(lines: Iterable[str], lists: Lists, no_sorted: Collection[str] = 
     program."""
     with _LOADING:
         reference = sys.modules.get("reference") or module_at(REPOSITORY / "bench" / "reference.py")
-    return "".join(reference.outcome(number, line, lists, no_sorted) for number, line in enumerate(lines, 1)).encode()
+    known: dict[str, str] = {}
+    text = []
+    for number, line in enumerate(lines, 1):
+        first = known.setdefault(line, "") or reference.outcome(1, line, lists, no_sorted)
+        known[line] = first
+        text.append(re.sub(r"^(certificate|refused) 1", rf"\1 {number}", first))
+    return "".join(text).encode()
 
 
 # Hosts of this process.
