@@ -14,15 +14,17 @@ CASES = pathlib.Path(__file__).resolve().parent / "cases"
 TOP_GRADE, WORD = 1_000_000, 1 << 64
 
 
-def case_lists(folder: pathlib.Path, text: str) -> Lists:
-    """The lists of a case: those of its bundle, or of the files that its catalog names."""
+def case_lists(folder: pathlib.Path, text: str) -> tuple[Lists, list[str]]:
+    """The lists of a case, those of its bundle or of the files that its catalog names, and the names of those that can't
+    be read from the top."""
     if not (folder / "files").is_dir():
         sections = re.findall(r"^list (\w+)\n((?:\d+,\d+\n)*)", text, re.MULTILINE)
-        return {name: rows_in(rows) for name, rows in sections}
+        return {name: rows_in(rows) for name, rows in sections}, []
     words = (folder / "words").read_text(encoding="utf-8").split()
-    records = (folder / "files" / words[-1]).read_text(encoding="utf-8").split()[1:]
-    places = {name: folder / "files" / place for name, place, *_ in (it.split(",") for it in records)}
-    return {name: rows_in(path.read_text(encoding="utf-8")) for name, path in places.items() if path.is_file()}
+    records = [it.split(",") for it in (folder / "files" / words[-1]).read_text(encoding="utf-8").split()[1:]]
+    places = {name: folder / "files" / place for name, place, *_ in records}
+    lists = {name: rows_in(path.read_text(encoding="utf-8")) for name, path in places.items() if path.is_file()}
+    return lists, [it[0] for it in records if it[3:] == ["no"]]
 
 
 def outcomes(text: str) -> list[str]:
@@ -38,12 +40,13 @@ def cases_are_worked_out(_: str) -> str | None:
         if words[:1] not in (["one"], ["run"]):
             continue
         text = (folder / "input").read_text(encoding="utf-8") if (folder / "input").exists() else ""
-        lists = case_lists(folder, text)
+        lists, no_sorted = case_lists(folder, text)
         for wanted in outcomes((folder / "output").read_text(encoding="utf-8")):
             head = re.match(r"certificate (\d+)\nquery (.*)\n", wanted)
             if head is None:
                 continue
-            known = worked_out([head[2]], lists).replace(b"certificate 1\n", f"certificate {head[1]}\n".encode())
+            known = worked_out([head[2]], lists, no_sorted)
+            known = known.replace(b"certificate 1\n", f"certificate {head[1]}\n".encode())
             wrong = first_difference(wanted.encode(), known)
             if wrong is not None:
                 return f"{folder.name}: {wrong}"
