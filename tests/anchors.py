@@ -21,7 +21,8 @@ def case_lists(folder: pathlib.Path, text: str) -> tuple[Lists, list[str]]:
         sections = re.findall(r"^list (\w+)\n((?:\d+,\d+\n)*)", text, re.MULTILINE)
         return {name: rows_in(rows) for name, rows in sections}, []
     words = (folder / "words").read_text(encoding="utf-8").split()
-    records = [it.split(",") for it in (folder / "files" / words[-1]).read_text(encoding="utf-8").split()[1:]]
+    named = next(it for it in words[1:] if (folder / "files" / it).is_file())
+    records = [it.split(",") for it in (folder / "files" / named).read_text(encoding="utf-8").split()[1:]]
     places = {name: folder / "files" / place for name, place, *_ in records}
     lists = {name: rows_in(path.read_text(encoding="utf-8")) for name, path in places.items() if path.is_file()}
     return lists, [it[0] for it in records if it[3:] == ["no"]]
