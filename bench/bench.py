@@ -13,8 +13,8 @@ The memory is the process's at its most, by GNU time; where that isn't installed
 the greater tables are left out once a query took longer than the timeout.
 
 The second table is of `topk bulk`, which makes such a table and so many queries over it and runs them all: for each
-number of rows and of workers the accesses of all queries, the seconds of the processor and of the clock, and the memory,
-beside 16 bytes for each access, which is what the transcripts need at the least.
+number of rows and of workers the accesses of all queries, the seconds of the processor and of the clock, and the
+memory, beside 16 bytes for each access, which is what the transcripts need at the least.
 """
 
 import argparse
@@ -33,8 +33,9 @@ BULK_START = 7
 K = 10
 # A list, an object, a grade and the kind of an access.
 ACCESS_BYTES = 16
-# A process begins with the memory of who starts it, as the system counts, and Python has more than a small table takes: so GNU time, which is small,
-# starts the program. It ends as the program does, and above this where that was ended from outside.
+# A process begins with the memory of who starts it, as the system counts, and Python has more than a small table takes:
+# so GNU time, which is small, starts the program. It ends as the program does, and above this where that was ended from
+# outside.
 TIME = shutil.which("time")
 LAST_STATUS = 128
 

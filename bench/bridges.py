@@ -1,10 +1,12 @@
 #!/usr/bin/env python3
-"""What topk reads of a database through examples/bridges, against the join that the database would make: rows, grades, requests and time.
+"""What topk reads of a database through examples/bridges, against the join that the database would make: rows, grades,
+requests and time.
 
 Use, from anywhere, with the program at ./topk (`make topk`) or the place given: bench/bridges.py [PROGRAM [ROWS]]
 
-A table of SQLite with 200,000 objects and four columns of grades, each half the object's own worth and half chance, so that the lists agree as
-rankings of real things do. The bridge runs in this process and counts what it gives; the statement that answers by the table alone runs beside.
+A table of SQLite with 200,000 objects and four columns of grades, each half the object's own worth and half chance, so
+that the lists agree as rankings of real things do. The bridge runs in this process and counts what it gives; the
+statement that answers by the table alone runs beside.
 """
 from __future__ import annotations
 

@@ -1,10 +1,12 @@
 #!/usr/bin/env python3
 """Queries over four nodes that are far: each connection to one comes to it only after some milliseconds.
 
-Use, from anywhere, with the program at ./topk (`make topk`) or the place given: bench/delayed.py [PROGRAM [ROWS [MILLISECONDS]]]
+Use, from anywhere, with the program at ./topk (`make topk`) or the place given: bench/delayed.py [PROGRAM [ROWS
+[MILLISECONDS]]]
 
-The lists are a made table of 20,000 objects, each served by `topk node`. Of each query it prints how many calls each list had, the most calls of which
-each came after the one before it, and the seconds beside those of a plain client that makes the calls of the busiest list again.
+The lists are a made table of 20,000 objects, each served by `topk node`. Of each query it prints how many calls each
+list had, the most calls of which each came after the one before it, and the seconds beside those of a plain client that
+makes the calls of the busiest list again.
 """
 from __future__ import annotations
 
@@ -24,7 +26,8 @@ from nodes import asked, at_port, catalog_of, made_table, run, served
 
 @contextlib.contextmanager
 def delayed(port: int, seconds: float) -> Iterator[tuple[int, list[tuple[float, float, str]]]]:
-    """A port behind which a node is so far away, and what it was asked for with the moments at which each call came and went."""
+    """A port behind which a node is so far away, and what it was asked for with the moments at which each call came and
+    went."""
     calls: list[tuple[float, float, str]] = []
 
     class Link(socketserver.StreamRequestHandler):
@@ -89,7 +92,8 @@ def main() -> None:
             port, calls = far[max(counts, key=counts.get)]
             plain = again(port, [target for _, _, target in list(calls)])
             print(f"{' '.join([algorithm, *words])}: {stop}; calls {list(counts.values())}, "
-                  f"{in_turn} one after another; {took:.2f} s, the busiest list's alone {plain:.2f} s, ratio {took / plain:.2f}")
+                  f"{in_turn} one after another; {took:.2f} s, "
+                  f"the busiest list's alone {plain:.2f} s, ratio {took / plain:.2f}")
 
 
 if __name__ == "__main__":

@@ -1,21 +1,26 @@
 #!/usr/bin/env python3
-"""How long Fagin's algorithm and `compare` take, beside a plain program of the algorithm (fagin.rs) over the same bundle.
+"""How long Fagin's algorithm and `compare` take, beside a plain program of the algorithm (fagin.rs) over the same
+bundle.
 
 Use, with a built program, and rustc:  bench/fagin.py [--program ./topk] [--lists 4] [--count 200000] [--rounds 5]
 
-Seconds are those of the processor, the least of the rounds in turn, reading the bundle included. Both certificates must be equal.
+Seconds are those of the processor, the least of the rounds in turn, reading the bundle included. Both certificates must
+be equal.
 """
+
+from __future__ import annotations
 
 import argparse
 import os
 import pathlib
 import subprocess
 import tempfile
+from collections.abc import Sequence
 
 HERE = pathlib.Path(__file__).resolve().parent
 
 
-def timed(words, bundle):
+def timed(words: Sequence[str], bundle: str) -> tuple[float, bytes]:
     """The seconds of the processor that a program takes over a bundle, and what it writes."""
     with open(bundle, "rb") as source, tempfile.TemporaryFile() as out:
         child = subprocess.Popen(words, stdin=source, stdout=out)
@@ -25,13 +30,14 @@ def timed(words, bundle):
         return used.ru_utime + used.ru_stime, out.read()
 
 
-def main():
-    words = argparse.ArgumentParser(description="How long Fagin's algorithm and `compare` take.")
-    words.add_argument("--program", default="./topk")
-    words.add_argument("--lists", type=int, default=4)
-    words.add_argument("--count", type=int, default=200_000)
-    words.add_argument("--rounds", type=int, default=5)
-    given = words.parse_args()
+def main() -> None:
+    """Prints a line of seconds, and what `compare` wrote."""
+    parser = argparse.ArgumentParser(description="How long Fagin's algorithm and `compare` take.")
+    parser.add_argument("--program", default="./topk")
+    parser.add_argument("--lists", type=int, default=4)
+    parser.add_argument("--count", type=int, default=200_000)
+    parser.add_argument("--rounds", type=int, default=5)
+    given = parser.parse_args()
     with tempfile.TemporaryDirectory() as place:
         plain, bundle = os.path.join(place, "plain"), os.path.join(place, "bundle")
         subprocess.run(["rustc", "-O", str(HERE / "fagin.rs"), "-o", plain], check=True)
@@ -41,10 +47,13 @@ def main():
         pathlib.Path(bundle).write_bytes(sections + f"query top 10 by sum({names}) using fa\n".encode())
         rows = []
         for _ in range(given.rounds):
-            rows.append([timed([given.program, "one"], bundle), timed([plain], bundle), timed([given.program, "compare"], bundle)])
+            ways = ([given.program, "one"], [plain], [given.program, "compare"])
+            rows.append([timed(words, bundle) for words in ways])
         one, beside, compared = (min(row[place][0] for row in rows) for place in range(3))
         same = "" if rows[0][0][1] == rows[0][1][1] else "  TEXTS DIFFER"
-        print(f"fa {given.count} x {given.lists}: one {one:.2f} s, plain {beside:.2f} s, ratio {one / beside:.2f}; compare {compared:.2f} s{same}")
+        ratio = one / beside if beside else float("nan")
+        print(f"fa {given.count} x {given.lists}: one {one:.2f} s, plain {beside:.2f} s, ratio {ratio:.2f}; "
+              f"compare {compared:.2f} s{same}")
         print(rows[0][2][1].decode(), end="")
 
 

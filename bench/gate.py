@@ -1,13 +1,15 @@
 #!/usr/bin/env python3
-"""What the gate costs: processor time and memory for each crate's check, its tests and its edits, as a table in Markdown.
+"""What the gate costs: processor time and memory for each crate's check, its tests and its edits, as a table in
+Markdown.
 
 Use, at the top of the repository:  bench/gate.py [--every 0.2] [--] [COMMAND ..]
 
-COMMAND is `rt ci` if none is given, with `--anew` where the kit keeps what a run passed: it proves all from nothing and takes an hour or
-more. `rt check`, `rt test` and `rt must-fail NAME` in a crate's folder serve to look at one crate. While it runs, each prover below it is
-looked at every so many seconds, so the time of a process is short by at most that much. A crate's check, its tests and its edits are told
-apart by the prover's words and by the folder that it runs in. The memory is that of the greatest process. Beside these stand the lines of
-code of the crate (its `.rt` files) and the seconds for 100 of them, all kinds together. It needs Linux (`/proc`).
+COMMAND is `rt ci` if none is given, with `--anew` where the kit keeps what a run passed: it proves all from nothing and
+takes an hour or more. `rt check`, `rt test` and `rt must-fail NAME` in a crate's folder serve to look at one crate.
+While it runs, each prover below it is looked at every so many seconds, so the time of a process is short by at most
+that much. A crate's check, its tests and its edits are told apart by the prover's words and by the folder that it runs
+in. The memory is that of the greatest process. Beside these stand the lines of code of the crate (its `.rt` files) and
+the seconds for 100 of them, all kinds together. It needs Linux (`/proc`).
 """
 
 import argparse

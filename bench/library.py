@@ -4,10 +4,11 @@
 Use, after `make lib` and with a built program:
     bench/library.py [--program ./topk] [--lists 4] [--count 20000] [--algorithms ta,nra,ca] [--rounds 20]
 
-The lists are those that the program's `make` writes, as two arrays of 32 bits each: of numpy, or of the module array where numpy isn't there.
-Milliseconds are those of the processor, the least of the rounds in turn; those of the program have its start and its reading in them. Of an answer from
-Python, `arrays` is the putting together of the rows, `library` the call and `parts` the taking apart of the certificate; `by text` is the same answer by
-way of a bundle's text, of which `text` is the making of it.
+The lists are those that the program's `make` writes, as two arrays of 32 bits each: of numpy, or of the module array
+where numpy isn't there. Milliseconds are those of the processor, the least of the rounds in turn; those of the program
+have its start and its reading in them. Of an answer from Python, `arrays` is the putting together of the rows,
+`library` the call and `parts` the taking apart of the certificate; `by text` is the same answer by way of a bundle's
+text, of which `text` is the making of it.
 """
 
 from __future__ import annotations

@@ -1,5 +1,6 @@
 #!/usr/bin/env python3
-"""Writes the data and the expected texts of crates/topk and of many_queries in crates/examples/data. Run it at the top of the repository."""
+"""Writes the data and the expected texts of crates/topk and of many_queries in crates/examples/data. Run it at the top
+of the repository."""
 
 import os
 import random

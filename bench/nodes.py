@@ -1,10 +1,12 @@
 #!/usr/bin/env python3
-"""Queries over four nodes on this machine, beside reading the four lists whole over the same wire: rows and grades asked for, and seconds.
+"""Queries over four nodes on this machine, beside reading the four lists whole over the same wire: rows and grades
+asked for, and seconds.
 
 Use, from anywhere, with the program at ./topk (`make topk`) or the place given: bench/nodes.py [PROGRAM [ROWS]]
 
-The lists are a made table of 200,000 objects, each served by `topk node` from its list file. A plain client reads them whole in pages of 10,000
-rows, joins them and takes the best; another one makes the random accesses of a certificate again, one connection after another.
+The lists are a made table of 200,000 objects, each served by `topk node` from its list file. A plain client reads them
+whole in pages of 10,000 rows, joins them and takes the best; another one makes the random accesses of a certificate
+again, one connection after another.
 """
 from __future__ import annotations
 
@@ -105,7 +107,8 @@ def served(program: str, names: Sequence[str], folder: pathlib.Path) -> Iterator
     with contextlib.ExitStack() as nodes:
         ports = {name: free_port() for name in names}
         for name, port in ports.items():
-            node = subprocess.Popen([program, "node", folder / "files.csv", name, "--at", str(port)], stdout=subprocess.DEVNULL)
+            words = [program, "node", str(folder / "files.csv"), name, "--at", str(port)]
+            node = subprocess.Popen(words, stdout=subprocess.DEVNULL)
             nodes.callback(node.wait)
             nodes.callback(node.kill)
         for port in ports.values():

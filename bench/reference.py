@@ -1,8 +1,8 @@
 """What topk writes of a query line, from the rules alone: a slow program that shares no code with topk.
 
-The expected texts of crates/topk and of many_queries in crates/examples/data were computed with it (make_examples.py), and
-tests/ work out with it what runs have to write. Lists are (object, grade) pairs in the order of their grades; places count
-from 0 here, depths from 1.
+The expected texts of crates/topk and of many_queries in crates/examples/data were computed with it (make_examples.py),
+and tests/ work out with it what runs have to write. Lists are (object, grade) pairs in the order of their grades;
+places count from 0 here, depths from 1.
 """
 from __future__ import annotations
 
@@ -84,7 +84,8 @@ class Query:
 
 
 class Run:
-    """One run of a query over its lists, access by access; `readable` tells of each list whether it can be read in order."""
+    """One run of a query over its lists, access by access; `readable` tells of each list whether it can be read in
+    order."""
 
     def __init__(self, query: Query, lists: Sequence[Rows], readable: Sequence[bool]) -> None:
         self.query, self.lists, self.readable = query, lists, readable
@@ -218,8 +219,8 @@ def figures(run: Run) -> dict[str, int]:
 
 
 def outcome(number: int, line: str, lists: Mapping[str, Rows], unordered: Collection[str] = ()) -> str:
-    """The text of a query line that is admitted but for its factor and for `unordered`, the names of lists that can't be
-    read in order."""
+    """The text of a query line that is admitted but for its factor and for `unordered`, the names of lists that can't
+    be read in order."""
     query = Query(line)
     if query.factor[0] < query.factor[1]:
         return f"refused {number} BadTheta {query.factor[0]} {query.factor[1]}\n"

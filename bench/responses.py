@@ -1,13 +1,13 @@
 #!/usr/bin/env python3
-"""How long a response with a page of rows takes to be read and taken apart: by what topk reads lists over HTTP with, and
-by httparse and serde_json alone.
+"""How long a response with a page of rows takes to be read and taken apart: by what topk reads lists over HTTP with,
+and by httparse and serde_json alone.
 
 Use, with the program that `rt ci` built or `cd crates/bench_http && rt run < stdin` builds:
     bench/responses.py [--rows 10000] [--rounds 5]
 
-The program reads the same response a hundred times. Milliseconds are those of the processor for one reading, the least of the rounds in turn, with the
-time of a process that reads a page of one row taken away. Both ways are the kit's crates under the same compiler, so the ratio is what the links, the
-framing by RFC 9112 and the checks of a page cost.
+The program reads the same response a hundred times. Milliseconds are those of the processor for one reading, the least
+of the rounds in turn, with the time of a process that reads a page of one row taken away. Both ways are the kit's
+crates under the same compiler, so the ratio is what the links, the framing by RFC 9112 and the checks of a page cost.
 """
 
 from __future__ import annotations

@@ -1,7 +1,9 @@
 #!/usr/bin/env python3
-"""How many requests a second `topk serve` answers, by ab, beside nginx with a static file of the same size, one request a connection.
+"""How many requests a second `topk serve` answers, by ab, beside nginx with a static file of the same size, one request
+a connection.
 
-Use, from anywhere, with the program at ./topk (`make topk`) or the place given: bench/serve.py [PROGRAM] [--requests 20000]
+Use, from anywhere, with the program at ./topk (`make topk`) or the place given: bench/serve.py [PROGRAM] [--requests
+20000]
 
 It needs ab (apache2-utils), and nginx for the comparison. All runs on this machine, with 8 clients at once.
 """
@@ -102,7 +104,8 @@ def main() -> None:
         (place / "catalog.csv").write_text(f"name,place,random\n{places}")
         for what, at, line, requests in (
             ("24 hotels", HOTELS, "top 2 by sum(price,rating,centre) using ta", given.requests),
-            ("4 lists of 20,000 rows", place, f"top 10 by sum({','.join(lists)}) using ta", max(1, given.requests // 10)),
+            ("4 lists of 20,000 rows", place, f"top 10 by sum({','.join(lists)}) using ta",
+             max(1, given.requests // 10)),
         ):
             target = f"/top?q={urllib.parse.quote(line)}"
             for workers in (1, 4):

@@ -1,25 +1,29 @@
 #!/usr/bin/env python3
-"""Whether `topk bulk` writes the same bytes however many workers it has, and how long it takes with some numbers of them.
+"""Whether `topk bulk` writes the same bytes however many workers it has, and how long it takes with some numbers of
+them.
 
 Use, with a built ./topk:  bench/threads.py [--counts 2000,20000] [--lists 4] [--queries 64] [--workers 1,8]
     [--times 50] [--timed 1,2,4] [--rounds 3] [--timeout 120]
 
-For each number of rows `bulk` is run so many times with each number of workers; each run has to end with the status 0 and
-the bytes of the first one. Then it is timed: seconds are those of the clock, the least of the rounds, since workers are
-there to use several processors at once. The status is 1 where a run differs or takes longer than the timeout.
+For each number of rows `bulk` is run so many times with each number of workers; each run has to end with the status 0
+and the bytes of the first one. Then it is timed: seconds are those of the clock, the least of the rounds, since workers
+are there to use several processors at once. The status is 1 where a run differs or takes longer than the timeout.
 """
+
+from __future__ import annotations
 
 import argparse
 import os
 import subprocess
 import sys
 import time
+from collections.abc import Iterable
 
 PROGRAM = "./topk"
 START = 7
 
 
-def bulk(arguments, count, workers):
+def bulk(arguments: argparse.Namespace, count: int, workers: int) -> tuple[bytes, float]:
     """What `topk bulk` writes, and the seconds that it takes."""
     words = [PROGRAM, "bulk", "--start", str(START), "--count", str(count), "--lists", str(arguments.lists)]
     words += ["--queries", str(arguments.queries), "--workers", str(workers)]
@@ -34,7 +38,7 @@ def bulk(arguments, count, workers):
     return ended.stdout, seconds
 
 
-def compare(arguments, count):
+def compare(arguments: argparse.Namespace, count: int) -> None:
     """Runs `bulk` over and over, and ends where a run writes anything else than the first one."""
     first, _ = bulk(arguments, count, arguments.workers[0])
     for turn in range(arguments.times):
@@ -42,24 +46,28 @@ def compare(arguments, count):
             text, _ = bulk(arguments, count, workers)
             if text != first:
                 sys.exit(f"{count} rows, {workers} workers, run {turn + 1}: {text} and not {first}")
-    print(f"{count} rows: {arguments.times} runs each with {arguments.workers} workers wrote {first.decode().strip()}", flush=True)
+    ways = f"{arguments.times} runs each with {arguments.workers} workers"
+    print(f"{count} rows: {ways} wrote {first.decode().strip()}", flush=True)
 
 
-def row(cells):
+def row(cells: Iterable[str]) -> None:
+    """Prints a row of a table."""
     print("| " + " | ".join(cells) + " |", flush=True)
 
 
-def measure(arguments, count):
+def measure(arguments: argparse.Namespace, count: int) -> None:
     """A row of the seconds with each number of workers."""
     best = [min(bulk(arguments, count, workers)[1] for _ in range(arguments.rounds)) for workers in arguments.timed]
     row([str(count)] + [f"{seconds:.3f}" for seconds in best])
 
 
-def numbers(text):
+def numbers(text: str) -> list[int]:
+    """Numbers with commas between them."""
     return [int(word) for word in text.split(",")]
 
 
-def main():
+def main() -> None:
+    """Compares, then times."""
     parser = argparse.ArgumentParser(description=__doc__, formatter_class=argparse.RawDescriptionHelpFormatter)
     parser.add_argument("--counts", type=numbers, default=[2_000, 20_000])
     parser.add_argument("--lists", type=int, default=4)

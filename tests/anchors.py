@@ -15,8 +15,8 @@ TOP_GRADE, WORD = 1_000_000, 1 << 64
 
 
 def case_lists(folder: pathlib.Path, text: str) -> tuple[Lists, list[str]]:
-    """The lists of a case, those of its bundle or of the files that its catalog names, and the names of those that can't
-    be read from the top."""
+    """The lists of a case, those of its bundle or of the files that its catalog names, and the names of those that
+    can't be read from the top."""
     if not (folder / "files").is_dir():
         sections = re.findall(r"^list (\w+)\n((?:\d+,\d+\n)*)", text, re.MULTILINE)
         return {name: rows_in(rows) for name, rows in sections}, []
@@ -105,7 +105,8 @@ def bulk_of_60(program: str) -> str | None:
 
 def bulk_of_2000(program: str) -> str | None:
     """40 queries over 2,000 objects write the same bytes with 1 and with 8 workers."""
-    words = ["bulk", "--start", "7", "--count", "2000", "--lists", "4", "--queries", "40", "--page", "50", "--ahead", "2"]
+    words = ["bulk", "--start", "7", "--count", "2000", "--lists", "4", "--queries", "40", "--page", "50",
+             "--ahead", "2"]
     one, eight = (run(program, [*words, "--workers", it]) for it in ("1", "8"))
     front = b"bulk queries 40 answered 40 depth "
     return differs(eight, 0, one.stdout) or (None if one.stdout.startswith(front) else f"wrote {one.stdout!r}")

@@ -19,7 +19,8 @@ BENCH = REPOSITORY / "bench"
 SMALLEST: dict[str, Sequence[str]] = {
     "bench": ("--lists", "2", "--counts", "20000", "--operators", "sum", "--algorithms", "ta", "--rounds", "1",
               "--bulk-lists", "2", "--queries", "2", "--workers", "1"),
-    "bridges": ("topk", "60"), "delayed": ("topk", "20", "1"), "fagin": ("--lists", "2", "--count", "50", "--rounds", "1"),
+    "bridges": ("topk", "60"), "delayed": ("topk", "20", "1"),
+    "fagin": ("--lists", "2", "--count", "50", "--rounds", "1"),
     "files": ("topk", "--counts", "50", "--lists", "2", "--queries", "2", "--workers", "1", "--rounds", "1"),
     "gate": ("--", "true"), "library": ("--lists", "2", "--count", "20", "--rounds", "1"), "nodes": ("topk", "100"),
     "responses": ("--rows", "10", "--rounds", "1"), "serve": ("topk", "--requests", "10"),
@@ -33,8 +34,9 @@ PEERS = {"fagin": "rustc", "serve": "ab"}
 
 def ended(name: str, words: Sequence[str], place: str) -> str | None:
     """What is wrong with how a file of bench/ ends, or None."""
-    done = subprocess.run([sys.executable, "-B", str(BENCH / f"{name}.py"), *words], cwd=place, stdin=subprocess.DEVNULL,
-                          stdout=subprocess.PIPE, stderr=subprocess.PIPE, timeout=SECONDS, check=False)
+    command = [sys.executable, "-B", str(BENCH / f"{name}.py"), *words]
+    done = subprocess.run(command, cwd=place, stdin=subprocess.DEVNULL, stdout=subprocess.PIPE, stderr=subprocess.PIPE,
+                          timeout=SECONDS, check=False)
     if done.returncode != 0:
         return f"ended with {done.returncode}: {done.stderr[-500:].decode(errors='replace')}"
     return None if done.stdout or name == "make_examples" else "wrote nothing"

@@ -109,7 +109,8 @@ def files_and_hosts(program: str) -> str | None:
 
 # A call of a list that fails, in which way, and what becomes of the one line then: None where the call isn't made.
 FAULTS = {
-    ("A", "page", 1): "A", ("A", "page", 2): "A", ("A", "page", 3): None, ("A", "grade", 1): "A", ("A", "grade", 2): "A",
+    ("A", "page", 1): "A", ("A", "page", 2): "A", ("A", "page", 3): None, ("A", "grade", 1): "A",
+    ("A", "grade", 2): "A",
     ("B", "page", 1): "B", ("B", "page", 2): "B", ("B", "grade", 1): "B",
 }
 WAYS: dict[str, tuple[bytes | type[Reset], str]] = {
@@ -118,25 +119,28 @@ WAYS: dict[str, tuple[bytes | type[Reset], str]] = {
 
 def each_fault(program: str) -> str | None:
     """One call of a page or of a grade that fails, or brings what has a wrong form, refuses the line by name, and no
-    line where the query doesn't need the call."""
+    line where the query doesn't need the call. One that was made ahead of its need, and failed before, is made again,
+    so the line may be answered too."""
     answered_text = worked_out([LINE], LISTS)
     for call, name in FAULTS.items():
         for way, (bad, kind) in WAYS.items():
             with hosting(LISTS, {call: bad}) as served:
                 done = run_at(program, dict.fromkeys(LISTS, served.port), f"{LINE}\n".encode(), *ALONE)
-            refused = f"refused 1 {kind} {name}\n".encode()
-            wrong = differs(done, 0, answered_text) if name is None else differs(done, 1, refused)
+            wrong = differs(done, 0, answered_text)
+            if wrong is not None and name is not None:
+                wrong = differs(done, 1, f"refused 1 {kind} {name}\n".encode())
             if wrong is not None:
                 return f"{call} is {way}: {wrong}"
     return None
 
 
 def one_fault_for_one_line(program: str) -> str | None:
-    """A page that failed for one line is fetched again for the next one."""
+    """A page that failed for one line, if it waited for it, is fetched again for the next one."""
     with hosting(LISTS, {("A", "page", 2): Reset}) as served:
         done = run_at(program, dict.fromkeys(LISTS, served.port), f"{LINE}\n{LINE}\n".encode(), *ALONE)
-    second = worked_out([LINE], LISTS).replace(b"certificate 1", b"certificate 2")
-    return differs(done, 1, b"refused 1 Failed A\n" + second)
+    both = worked_out([LINE, LINE], LISTS)
+    second = both[both.index(b"certificate 2"):]
+    return differs(done, 1, b"refused 1 Failed A\n" + second) and differs(done, 0, both)
 
 
 # Hosts that serve what is no list, or no table: the rows of each, of which a grade may be lied about and the count too;

@@ -129,8 +129,8 @@ def bash_options_once(_: str) -> str | None:
 def installed(program: str) -> str | None:
     """`make install` puts each file in its place below DESTDIR and PREFIX, and `make uninstall` takes each away."""
     make, _ = path_of("make"), path_of("install")
-    wanted = {"bin/topk", "share/man/man1/topk.1", "share/bash-completion/completions/topk", "share/zsh/site-functions/_topk",
-              "share/fish/vendor_completions.d/topk.fish"}
+    wanted = {"bin/topk", "share/man/man1/topk.1", "share/bash-completion/completions/topk",
+              "share/zsh/site-functions/_topk", "share/fish/vendor_completions.d/topk.fish"}
     with tempfile.TemporaryDirectory() as place:
         words = [f"DESTDIR={place}", "PREFIX=/opt/top k", f"PROGRAM={program}"]
         prefix = pathlib.Path(place) / "opt" / "top k"

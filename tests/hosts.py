@@ -52,7 +52,8 @@ FOUR = {
 ROUND = {"A": "B", "B": "C", "C": "D", "D": "A"}
 # Of each algorithm, how many of the calls for grades of which lists it can make beside which others: `ta` the three
 # that each list lacks at depth 1, `ca` the three of object 1, which A has first.
-BESIDE: dict[str, tuple[dict[str, str], int]] = {"ta": (ROUND, 3), "nra": ({}, 0), "ca": ({"B": "C", "C": "D", "D": "B"}, 1)}
+BESIDE: dict[str, tuple[dict[str, str], int]] = {
+    "ta": (ROUND, 3), "nra": ({}, 0), "ca": ({"B": "C", "C": "D", "D": "B"}, 1)}
 # What a line over B comes to that is the second.
 B_ENDS = b"""certificate 2
 query top 3 by B using nra

@@ -14,8 +14,8 @@ from collections.abc import Callable, Iterator
 
 import servers
 from machine import SECONDS, Skipped, free_port, over_network, path_of, peer
-from support import (HOTELS, REPOSITORY, differs, first_difference, hotel_lists, node, received, request, run_at, server,
-                     wait_for, worked_out, write)
+from support import (HOTELS, REPOSITORY, differs, first_difference, hotel_lists, node, received, request, run_at,
+                     server, wait_for, worked_out, write)
 
 EXAMPLE = REPOSITORY / "examples" / "nginx.conf"
 QUERY = "top 2 by min(price,rating,centre) using nra"

@@ -58,7 +58,8 @@ def skips_name_tests(_: str) -> str | None:
 def first_difference(_: str) -> str | None:
     """A failure says the first line that differs, with its number."""
     rows = {(b"a\nb\n", b"a\nc\n"): "line 2 is b'b' in place of b'c'", (b"a\n", b"a\n"): None,
-            (b"a", b"a\nb"): "ends with line 1; b'b' is wanted then", (b"a\nb", b"a"): "goes on behind line 1 with b'b'"}
+            (b"a", b"a\nb"): "ends with line 1; b'b' is wanted then",
+            (b"a\nb", b"a"): "goes on behind line 1 with b'b'"}
     found = {texts: support.first_difference(*texts) for texts in rows}
     return next((f"said {said!r} of {texts}" for texts, said in found.items() if said != rows[texts]), None)
 

@@ -16,8 +16,8 @@ from collections.abc import Callable, Iterator, Sequence
 
 from hosts import B_ENDS, LISTS, answered
 from machine import SECONDS, needs, no_memory, no_room, no_threads, over_network
-from support import (Done, Lists, Reset, built, catalog, differs, host, list_text, refusal, run, run_at, shown, worked_out,
-                     write, write_lists)
+from support import (Done, Lists, Reset, built, catalog, differs, host, list_text, refusal, run, run_at, shown,
+                     worked_out, write, write_lists)
 
 # The most lists that a query names here.
 NAMED = 8
