@@ -84,7 +84,8 @@ def join(names: Sequence[str]) -> bytes:
     return f".mode csv\n{tables}{select}".encode()
 
 
-def one_line(program: str, place: pathlib.Path, names: Sequence[str], given: argparse.Namespace) -> list[tuple[str, ...]]:
+def one_line(program: str, place: pathlib.Path, names: Sequence[str],
+             given: argparse.Namespace) -> list[tuple[str, ...]]:
     """The milliseconds of one line of each algorithm."""
     bundle, cells = (place / "bundle").read_bytes(), []
     for algorithm in ALGORITHMS:

@@ -12,12 +12,15 @@ in. The memory is that of the greatest process. Beside these stand the lines of 
 the seconds for 100 of them, all kinds together. It needs Linux (`/proc`).
 """
 
+from __future__ import annotations
+
 import argparse
 import glob
 import os
 import subprocess
 import sys
 import time
+from collections.abc import Iterable, Mapping, Sequence
 from dataclasses import dataclass, field
 
 PROVER = "rattle"
@@ -39,17 +42,18 @@ class Process:
 class Crate:
     """What the processes of a crate took, by kind."""
 
-    seconds: dict = field(default_factory=lambda: dict.fromkeys(KINDS, 0.0))
-    runs: dict = field(default_factory=lambda: dict.fromkeys(KINDS, 0))
+    seconds: dict[str, float] = field(default_factory=lambda: dict.fromkeys(KINDS, 0.0))
+    runs: dict[str, int] = field(default_factory=lambda: dict.fromkeys(KINDS, 0))
     megabytes: int = 0
 
-    def add(self, process):
+    def add(self, process: Process) -> None:
+        """Adds what a process took."""
         self.seconds[process.kind] += process.seconds
         self.runs[process.kind] += 1
         self.megabytes = max(self.megabytes, process.megabytes)
 
 
-def read(path):
+def read(path: str) -> bytes:
     """A file of /proc, or nothing where the process has ended."""
     try:
         with open(path, "rb") as file:
@@ -58,7 +62,7 @@ def read(path):
         return b""
 
 
-def parents():
+def parents() -> dict[int, int]:
     """The parent of each process."""
     found = {}
     for name in os.listdir("/proc"):
@@ -69,7 +73,7 @@ def parents():
     return found
 
 
-def below(top, of):
+def below(top: int, of: Mapping[int, int]) -> set[int]:
     """The processes below one, by the parent of each."""
     inside = {top}
     grown = True
@@ -80,7 +84,7 @@ def below(top, of):
     return inside
 
 
-def kind_of(pid, words):
+def kind_of(pid: int, words: Sequence[str]) -> str:
     """Whether a prover checks a crate, its tests or an edit of it, or compiles a program of what was proved."""
     try:
         folder = os.path.basename(os.readlink(f"/proc/{pid}/cwd"))
@@ -93,7 +97,7 @@ def kind_of(pid, words):
     return "tests" if "--test" in words else "check"
 
 
-def megabytes_of(pid):
+def megabytes_of(pid: int) -> int:
     """The most memory that a process held."""
     for line in read(f"/proc/{pid}/status").decode(errors="replace").splitlines():
         if line.startswith("VmHWM:"):
@@ -101,13 +105,13 @@ def megabytes_of(pid):
     return 0
 
 
-def words_of(pid):
+def words_of(pid: int) -> list[str] | None:
     """The words of a prover of a crate, or None of another process."""
     words = read(f"/proc/{pid}/cmdline").decode(errors="replace").split("\0")
     return words if os.path.basename(words[0]) == PROVER and "--crate-name" in words else None
 
 
-def look(pid, parent, seen):
+def look(pid: int, parent: int, seen: dict[tuple[int, bytes], Process]) -> None:
     """Notes what a process took so far, if it is a prover of a crate. What a prover's own jobs took counts for it."""
     words = words_of(pid)
     if not words or words_of(parent):
@@ -125,9 +129,9 @@ def look(pid, parent, seen):
     seen[(pid, began)] = Process(name, kind, seconds, megabytes)
 
 
-def watch(command, every):
+def watch(command: Sequence[str], every: float) -> tuple[int, Iterable[Process]]:
     """Runs a command, and gives its status and what each prover below it took."""
-    seen = {}
+    seen: dict[tuple[int, bytes], Process] = {}
     child = subprocess.Popen(command, stdout=sys.stderr)
     while child.poll() is None:
         of = parents()
@@ -137,7 +141,7 @@ def watch(command, every):
     return child.returncode, seen.values()
 
 
-def top_folder():
+def top_folder() -> str:
     """The folder at or above this one that has crates.txt, or this one."""
     folder = os.getcwd()
     while not os.path.exists(os.path.join(folder, "crates.txt")):
@@ -148,7 +152,7 @@ def top_folder():
     return folder
 
 
-def names_in_order(top):
+def names_in_order(top: str) -> list[str]:
     """The crates of crates.txt, lowest first."""
     try:
         with open(os.path.join(top, "crates.txt"), encoding="utf-8") as file:
@@ -158,7 +162,7 @@ def names_in_order(top):
     return [line.split(":")[0].split()[0] for line in lines if line]
 
 
-def lines_of(top, name):
+def lines_of(top: str, name: str) -> int:
     """How many lines of code a crate has."""
     lines = 0
     for path in glob.glob(os.path.join(top, "crates", name, "src", "**", "*.rt"), recursive=True):
@@ -167,19 +171,20 @@ def lines_of(top, name):
     return lines
 
 
-def row(name, crate, lines):
+def row(name: str, crate: Crate, lines: int) -> str:
     """A row of the table."""
     figures = [f"{crate.seconds[kind]:.0f}" for kind in KINDS]
     rate = f"{sum(crate.seconds.values()) * 100 / lines:.0f}" if lines else ""
     return f"| {name} | {' | '.join(figures)} | {crate.runs['edits']} | {crate.megabytes} | {lines} | {rate} |"
 
 
-def table(crates, wall):
+def table(crates: Mapping[str, Crate], wall: float) -> None:
     """The table of what each crate took."""
     top = top_folder()
     order = names_in_order(top)
     place = {name: at for at, name in enumerate(order)}
-    print("| crate | check, s | tests, s | compiled, s | edits, s | runs for edits | MB at most | lines of code | s for 100 lines |")
+    print("| crate | check, s | tests, s | compiled, s | edits, s | runs for edits | MB at most | lines of code "
+          "| s for 100 lines |")
     print("|---|---|---|---|---|---|---|---|---|")
     total = Crate()
     all_lines = 0
@@ -197,20 +202,21 @@ def table(crates, wall):
     print(f"\n{whole:.0f} minutes of processor time in {wall / 60:.0f} minutes, on {os.cpu_count()} processors.")
 
 
-def gate():
+def gate() -> list[str]:
     """The gate from nothing: a kit whose `rt ci` keeps what it passed has a word against that."""
     told = subprocess.run(["rt", "help"], capture_output=True, text=True, check=False)
     return ["rt", "ci", "--anew"] if "--anew" in told.stdout + told.stderr else ["rt", "ci"]
 
 
-def main():
-    parser = argparse.ArgumentParser(description=__doc__.splitlines()[0])
+def main() -> int:
+    """Watches a command, prints the table, and answers the command's status."""
+    parser = argparse.ArgumentParser(description="What the gate costs.")
     parser.add_argument("--every", type=float, default=0.2, help="seconds between two looks")
     parser.add_argument("command", nargs="*", help="what to run, `rt ci` from nothing if nothing is given")
     words = parser.parse_args()
     began = time.monotonic()
     status, seen = watch(words.command or gate(), words.every)
-    crates = {}
+    crates: dict[str, Crate] = {}
     for process in seen:
         crates.setdefault(process.crate, Crate()).add(process)
     table(crates, time.monotonic() - began)

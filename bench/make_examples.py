@@ -2,8 +2,11 @@
 """Writes the data and the expected texts of crates/topk and of many_queries in crates/examples/data. Run it at the top
 of the repository."""
 
+from __future__ import annotations
+
 import os
 import random
+from collections.abc import Iterable, Mapping, Sequence
 
 from reference import outcome
 
@@ -11,7 +14,8 @@ from reference import outcome
 HOTELS = [
     (101, "Adler", 129, 8.4, 350, 46), (102, "Am Ring", 89, 7.2, 1900, 58), (103, "Bellevue", 245, 9.3, 900, 38),
     (104, "Brauhaus", 74, 7.9, 250, 63), (105, "Central", 112, 6.8, 150, 61), (106, "Domblick", 168, 8.9, 120, 52),
-    (107, "Eden", 99, 8.1, 2400, 35), (108, "Fuerstenhof", 210, 9.0, 600, 41), (109, "Garni Lindner", 68, 8.6, 3100, 33),
+    (107, "Eden", 99, 8.1, 2400, 35), (108, "Fuerstenhof", 210, 9.0, 600, 41),
+    (109, "Garni Lindner", 68, 8.6, 3100, 33),
     (110, "Hafen", 95, 7.5, 1400, 55), (111, "Ibsen", 83, 8.0, 2200, 44), (112, "Jaegerhaus", 59, 7.1, 5200, 29),
     (113, "Kaiserhof", 189, 8.2, 450, 49), (114, "Lamm", 78, 9.1, 4100, 31), (115, "Markt", 139, 8.8, 90, 57),
     (116, "Nordstern", 105, 7.7, 1700, 47), (117, "Ochsen", 64, 6.4, 800, 60), (118, "Post", 92, 8.3, 700, 51),
@@ -33,25 +37,30 @@ HOTEL_LINES = [
 ]
 
 # the lines that are refused for what the catalog says
-HOTEL_REFUSALS = {6: "refused 6 NoRandom quiet\n", 7: "refused 7 NotOpened stars\n", 8: "refused 8 UnknownList comfort\n"}
+HOTEL_REFUSALS = {6: "refused 6 NoRandom quiet\n", 7: "refused 7 NotOpened stars\n",
+                  8: "refused 8 UnknownList comfort\n"}
 
 
-def write(path, text):
+def write(path: str, text: str) -> None:
+    """Writes a file, and the folders above it."""
     os.makedirs(os.path.dirname(path), exist_ok=True)
     with open(path, "w", newline="") as file:
         file.write(text)
 
 
-def ranked(rows):
+def ranked(rows: Iterable[tuple[int, int]]) -> list[tuple[int, int]]:
+    """Rows, best first."""
     return sorted(rows, key=lambda row: (-row[1], row[0]))
 
 
-def write_lists(folder, lists):
+def write_lists(folder: str, lists: Mapping[str, Sequence[tuple[int, int]]]) -> None:
+    """Writes a list file for each list."""
     for name, rows in lists.items():
         write(f"{folder}/{name}.csv", "object,grade\n" + "".join(f"{item},{grade}\n" for item, grade in rows))
 
 
-def hotels():
+def hotels() -> None:
+    """Writes the hotels, their queries and what these come to."""
     lists = {
         "price": ranked((h[0], 1_000_000 - 2_500 * h[2]) for h in HOTELS),
         "rating": ranked((h[0], round(h[3] * 10) * 10_000) for h in HOTELS),
@@ -64,7 +73,7 @@ def hotels():
     write("crates/topk/stdout", "".join(texts))
 
 
-def made_query(draw, names):
+def made_query(draw: random.Random, names: Sequence[str]) -> str:
     """One line over one to five of the lists."""
     few = draw.sample(names, draw.randint(1, 5))
     kind = draw.choice(["sum", "min", "max", "median", "wsum"])
@@ -75,7 +84,8 @@ def made_query(draw, names):
     return f"top {draw.randint(1, 6)} by {expression} using {algorithm}{cost}"
 
 
-def many_queries():
+def many_queries() -> None:
+    """Writes lists, 64 lines over them and what these come to."""
     draw = random.Random(64)
     names = [f"l{n}" for n in range(1, 9)]
     items = list(range(1, 13))
@@ -85,7 +95,8 @@ def many_queries():
         line = made_query(draw, names)
         if line not in lines:
             lines.append(line)
-    write("crates/examples/data/many_queries.csv", "name,place,random\r\n" + "".join(f"{n},lists/{n}.csv,yes\r\n" for n in names))
+    records = "".join(f"{name},lists/{name}.csv,yes\r\n" for name in names)
+    write("crates/examples/data/many_queries.csv", f"name,place,random\r\n{records}")
     write_lists("crates/examples/data/lists", lists)
     write("crates/examples/data/many_queries.lines", "".join(line + "\r\n" for line in lines))
     write("crates/examples/data/many_queries.text", "".join(outcome(n, line, lists) for n, line in enumerate(lines, 1)))
