@@ -367,7 +367,7 @@ const REFUSALS = {
   "status 7": {
     "kind": "status",
     "fields": [],
-    "sentence": "The port can't be listened at, or gives no more connections. Nothing was written.",
+    "sentence": "The program can't listen at the port, or can't any more. Nothing was written. Where descriptors or memory are out for a connection, it waits instead.",
     "cure": "See that no other program listens there, and that you may listen: a port below 1024 may need special rights."
   },
   "status 8": {
