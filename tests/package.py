@@ -233,7 +233,8 @@ def package_of_shop(program: str) -> str | None:
     exact_price = [(400 - Fraction(it)) / 400 * MILLION for it in prices]
     exact_rating = [(Fraction(it or 1) - 1) / 4 * MILLION for it in ratings]
     core = Program(program)
-    for how, plain in (("sum", sum), ("min", min), ("max", max)):
+    ways: list[tuple[str, Callable[[Any], Any]]] = [("sum", sum), ("min", min), ("max", max)]
+    for how, plain in ways:
         answer = table.top(7, ["price", "rating"], how=how, where={"on_sale": 1}, core=core)
         wrong = wrong_answer(answer, keys, list(map(plain, zip(price, rating))), 7) or beyond_bound(
             answer, keys, list(map(plain, zip(exact_price, exact_rating)))
@@ -281,6 +282,13 @@ def package_grades(program: str) -> str | None:
     )
 
 
+WAYS_OF_FLOATS: tuple[tuple[Any, Callable[[Any], Any]], ...] = (
+    (["x", "y"], sum),
+    ("max(x,y)", max),
+    ("min(x,wsum(2*y))", lambda pair: min(pair[0], 2 * pair[1])),
+)
+
+
 def package_floats(program: str) -> str | None:
     """Floats of any size: each grade is as near to the exact one as is stated, and the best by values are in the
     answer up to the bound.
@@ -315,11 +323,7 @@ def package_floats(program: str) -> str | None:
             ranked = table.ranked_list(name)
             if max(abs(grade - it) for grade, it in zip(ranked.grades, wanted)) > ranked.error:
                 return f"values from {low} to {high} are rounded by more than {ranked.error}"
-        for by, plain in (
-            (["x", "y"], sum),
-            ("max(x,y)", max),
-            ("min(x,wsum(2*y))", lambda pair: min(pair[0], 2 * pair[1])),
-        ):
+        for by, plain in WAYS_OF_FLOATS:
             answer = table.top(5, by, core=core)
             wrong = beyond_bound(answer, keys, list(map(plain, zip(*exact))))
             if wrong is not None:
@@ -622,7 +626,7 @@ def package_expressions(program: str) -> str | None:
 
 def package_choices(program: str) -> str | None:
     """The algorithm that is chosen, and why; never ca over min or median."""
-    rows = [
+    rows: list[tuple[tuple[Any, ...], str]] = [
         (([], [], ["sum"], (1, 1)), "ta"),
         (([], [], ["min"], (1, 1)), "ta"),
         (([], [], ["sum"], (5, 1)), "ta"),
@@ -936,15 +940,17 @@ def package_both_ways(program: str) -> str | None:
             return f"{one.query}: {one} from the library and {other} from the program"
     given = {"A": array.array("I", [1, 900, 2, 800]), "B": array.array("I", [2, 700, 1, 500])}
     bad = {"A": array.array("I", [1, 900, 2, 901]), "B": array.array("I", [2, 700, 1, 500])}
-    for rows, query in (
+    asked: list[tuple[dict[str, array.array[int]], str]] = [
         (given, "top 3 by A using ta"),
         (given, "top 1 by Z using ta"),
         (given, "top by"),
         (bad, "top 1 by A using ta"),
         ({}, "top 1 by A using ta"),
-    ):
+    ]
+    for rows, query in asked:
         said = []
-        for core in (library, process):
+        cores: tuple[topk.Core, ...] = (library, process)
+        for core in cores:
             try:
                 said.append(repr(core.answer_rows(rows, query)))
             except Refused as fault:

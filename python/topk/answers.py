@@ -33,7 +33,7 @@ class Row:
     least that is possible.
     """
     values: Mapping[str, Any]
-    """What the table has for each criterion of the question, by the criterion's name; None where it is missing."""
+    """What the table has for each criterion of the question, by the criterion's name, as it stands there."""
     grades: Mapping[str, int | None]
     """The grade of each criterion of the question. Over list files alone it is None where the certificate hasn't it."""
     object: int
