@@ -1075,7 +1075,8 @@ table = topk.Table({"x": [1]}, criteria=[topk.criterion("x")])
 print(topk.__version__, topk.core().kind, table.top(1, ["x"]).keys)
 """
         there = {**os.environ, "PYTHONPATH": str(to), "TOPK_PROGRAM": program, "TOPK_LIBRARY": ""}
-        said = subprocess.run([python, "-c", code], stdout=subprocess.PIPE, env=there, cwd=place, timeout=SECONDS).stdout
+        words = [python, "-c", code]
+        said = subprocess.run(words, stdout=subprocess.PIPE, env=there, cwd=place, timeout=SECONDS).stdout
         (folder / "topk" / "libtopk.so").write_bytes(b"library")
         made = peer([*pip, "wheel", *how, "--wheel-dir", place, folder])
         if made.returncode != 0:
