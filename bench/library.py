@@ -31,7 +31,7 @@ START = 1
 
 
 def module() -> ModuleType:
-    """python/topk.py, which finds the library that `make lib` has built."""
+    """The package python/topk, which finds the library that `make lib` has built."""
     sys.path.insert(0, str(HERE.parent / "python"))
     return importlib.import_module("topk")
 

@@ -1,10 +1,12 @@
 #!/usr/bin/env python3
-"""How long the Python package takes from a CSV file to the ten best rows, beside pandas, which reads, scales and sorts the same.
+"""How long the Python package takes from a CSV file to the ten best rows, beside pandas, which reads, scales and sorts
+the same.
 
 Use, with a built program or library:  bench/package.py [--rows 200000] [--rounds 5] [--python /usr/bin/python3]
 
-`--python` is a Python that has pandas. Each is a process of its own, and they take turns. Seconds are those of the processor, of the process and of those
-that it started, the least of the rounds: with its start and its imports, and without them. pandas rounds nothing and gives no certificate.
+`--python` is a Python that has pandas. Each is a process of its own, and they take turns. Seconds are those of the
+processor, of the process and of those that it started, the least of the rounds: with its start and its imports, and
+without them. pandas rounds nothing and gives no certificate.
 """
 from __future__ import annotations
 
@@ -37,7 +39,8 @@ PANDAS = """
 import pandas
 began = seconds()
 table = pandas.read_csv(sys.argv[1])
-scaled = {name: (table[name] - table[name].min()) / (table[name].max() - table[name].min()) for name in table.columns[1:]}
+columns = {name: table[name] for name in table.columns[1:]}
+scaled = {name: (it - it.min()) / (it.max() - it.min()) for name, it in columns.items()}
 table["score"] = 2 * (1 - scaled["price"]) + scaled["rating"] + (1 - scaled["distance"]) + scaled["stars"]
 print(table.sort_values("score", ascending=False).head(10).to_string())
 print(seconds(), seconds() - began, file=sys.stderr)
@@ -48,7 +51,8 @@ def write_table(path: pathlib.Path, rows: int) -> None:
     """Writes hotels with made prices, ratings, distances and stars."""
     made = random.Random(5)
     lines = (
-        f"hotel number {it},{made.randrange(20, 900)},{made.random() * 5:.3f},{made.expovariate(0.2):.4f},{made.randrange(1, 6)}\n"
+        f"hotel number {it},{made.randrange(20, 900)},{made.random() * 5:.3f},{made.expovariate(0.2):.4f},"
+        f"{made.randrange(1, 6)}\n"
         for it in range(rows)
     )
     path.write_text("name,price,rating,distance,stars\n" + "".join(lines), encoding="utf-8")

@@ -4,12 +4,13 @@ from __future__ import annotations
 
 import filecmp
 import functools
+import importlib.util
 import os
 import pathlib
 import subprocess
 import sys
 import tempfile
-from collections.abc import Callable, Iterator, Sequence
+from collections.abc import Callable, Iterator, Mapping, Sequence
 
 from machine import SECONDS, Skipped, no_loopback, needs, path_of
 from support import REPOSITORY
@@ -23,6 +24,7 @@ SMALLEST: dict[str, Sequence[str]] = {
     "fagin": ("--lists", "2", "--count", "50", "--rounds", "1"),
     "files": ("topk", "--counts", "50", "--lists", "2", "--queries", "2", "--workers", "1", "--rounds", "1"),
     "gate": ("--", "true"), "library": ("--lists", "2", "--count", "20", "--rounds", "1"), "nodes": ("topk", "100"),
+    "package": ("--rows", "50", "--rounds", "1"),
     "responses": ("--rows", "10", "--rounds", "1"), "serve": ("topk", "--requests", "10"),
     "threads": ("--counts", "20", "--lists", "2", "--queries", "2", "--times", "1", "--timed", "1", "--rounds", "1"),
 }
@@ -30,13 +32,14 @@ SMALLEST: dict[str, Sequence[str]] = {
 BUILT = {"library": (REPOSITORY / "c" / "out" / "libtopk.so", "there is no c/out/libtopk.so"),
          "responses": (REPOSITORY / "crates" / "bench_http" / "out" / "bench_http", "there is no bench_http")}
 PEERS = {"fagin": "rustc", "serve": "ab"}
+MODULES = {"package": "pandas"}
 
 
-def ended(name: str, words: Sequence[str], place: str) -> str | None:
+def ended(name: str, words: Sequence[str], place: str, env: Mapping[str, str] | None = None) -> str | None:
     """What is wrong with how a file of bench/ ends, or None."""
     command = [sys.executable, "-B", str(BENCH / f"{name}.py"), *words]
     done = subprocess.run(command, cwd=place, stdin=subprocess.DEVNULL, stdout=subprocess.PIPE, stderr=subprocess.PIPE,
-                          timeout=SECONDS, check=False)
+                          timeout=SECONDS, check=False, env=env)
     if done.returncode != 0:
         return f"ended with {done.returncode}: {done.stderr[-500:].decode(errors='replace')}"
     return None if done.stdout or name == "make_examples" else "wrote nothing"
@@ -47,11 +50,13 @@ def runs(program: str, name: str) -> str | None:
     needs(no_loopback())
     if name in PEERS:
         path_of(PEERS[name])
+    if name in MODULES and importlib.util.find_spec(MODULES[name]) is None:
+        raise Skipped(f"there is no {MODULES[name]}")
     if name in BUILT and not BUILT[name][0].exists():
         raise Skipped(BUILT[name][1])
     with tempfile.TemporaryDirectory() as place:
         os.symlink(program, os.path.join(place, "topk"))
-        return ended(name, SMALLEST[name], place)
+        return ended(name, SMALLEST[name], place, dict(os.environ, TOPK_PROGRAM=program))
 
 
 def each_has_a_size(_: str) -> str | None:

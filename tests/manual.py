@@ -17,10 +17,10 @@ from collections.abc import Callable, Iterator
 from typing import Any
 
 from machine import SECONDS, path_of, peer
+from support import REPOSITORY
 
-ROOT = pathlib.Path(__file__).resolve().parent.parent
-MANUAL = ROOT / "docs" / "topk.1"
-SENTENCES = ROOT / "examples" / "view" / "refusals.js"
+MANUAL = REPOSITORY / "docs" / "topk.1"
+SENTENCES = REPOSITORY / "examples" / "view" / "refusals.js"
 
 # The lines between which a part stands that is made, and how each part begins.
 BEGINS, ENDS = '.\\" made: {}', '.\\" until here'

@@ -1,32 +1,24 @@
-#!/usr/bin/env python3
 """The edge of the port: `node` and `serve` where the system has an error, few descriptors or a slow client for them.
 
-Use, from anywhere: python3 tests/port_edge.py [--program PATH] [NAME ..]
-
 Each process listens at a free port, takes so many connections as its test makes, and is ended at the test's end. The
-errors of `accept` are made by strace; where a machine has none, or no IPv6, those tests are skipped by name. Ends with
-'N passed, M failed, K skipped', and with the status 0 exactly where none failed. Standard library alone.
+errors of `accept` are made by strace.
 """
 from __future__ import annotations
 
-import argparse
 import contextlib
 import functools
 import pathlib
 import re
-import shutil
 import socket
 import subprocess
-import sys
 import tempfile
 import threading
 import time
 from collections.abc import Callable, Iterator
-from typing import Tuple
 
-PROGRAM = pathlib.Path(__file__).resolve().parent.parent / "crates" / "topk" / "out" / "topk"
-# The most seconds that one step of a test may take. What is right takes a few.
-SECONDS = 120
+from machine import SECONDS, free_port, needs, over_network, path_of
+from support import Listening, catalog, ended, received, run, write, write_lists
+
 ROWS = 10_000
 # What the system may say of one connection, or of the network, and what it says where it wants something for a while.
 PASSING = ("EINTR", "EPERM", "ENONET", "EPROTO", "ENOPROTOOPT", "EOPNOTSUPP", "ENETDOWN", "ENETUNREACH",
@@ -39,34 +31,17 @@ LINE = f"GET /top?q={QUERY.replace(' ', '+').replace(',', '%2C')} HTTP/1.1\r\nHo
 PAGE = f"GET /lists/A/page?from=1&count={ROWS} HTTP/1.1\r\nHost: h\r\n"
 SIZE = b"GET /lists/A/size HTTP/1.1\r\nHost: h\r\n\r\n"
 BODY = b"b" * 300_000
-
-
-# A process that listens at a port.
-Started = contextlib.AbstractContextManager[Tuple[int, "subprocess.Popen[bytes]"]]
-
-
-class Skipped(Exception):
-    """What this machine lacks."""
-
-
-def catalog(place: str) -> None:
-    """A catalog of two lists of 10,000 rows, whose orders are opposite."""
-    path = pathlib.Path(place)
-    path.joinpath("catalog.csv").write_text("name,place,random\nA,a.csv,yes\nB,b.csv,yes\n", encoding="ascii")
-    for name, objects in (("a", range(ROWS)), ("b", reversed(range(ROWS)))):
-        rows = (f"{4_000_000_000 + number},{1_000_000 - rank}\n" for rank, number in enumerate(objects))
-        path.joinpath(f"{name}.csv").write_text("object,grade\n" + "".join(rows), encoding="ascii")
+# Two lists of 10,000 rows, whose orders are opposite.
+LISTS = {name: [(4_000_000_000 + number, 1_000_000 - rank) for rank, number in enumerate(objects)]
+         for name, objects in (("A", range(ROWS)), ("B", range(ROWS - 1, -1, -1)))}
 
 
 @contextlib.contextmanager
 def begun(program: str, words: list[str], conns: int, before: tuple[str, ...] = (),
           files: int | None = None) -> Iterator[tuple[int, subprocess.Popen[bytes]]]:
     """A process that listens at a free port, behind a tracer's words, with so many descriptors: its port, and it."""
-    with tempfile.TemporaryDirectory() as place, socket.socket() as taken:
-        catalog(place)
-        taken.bind(("127.0.0.1", 0))
-        port = taken.getsockname()[1]
-        taken.close()
+    with tempfile.TemporaryDirectory() as place, free_port() as port:
+        write_lists(place, LISTS)
         command = [*before, program, *words, "--conns", str(conns), "--at", str(port)]
         if files is not None:
             command = ["sh", "-c", f'ulimit -n {files}; exec "$@"', "sh", *command]
@@ -77,12 +52,12 @@ def begun(program: str, words: list[str], conns: int, before: tuple[str, ...] = 
                 process.kill()
 
 
-def node(program: str, conns: int, before: tuple[str, ...] = ()) -> Started:
+def node(program: str, conns: int, before: tuple[str, ...] = ()) -> Listening:
     """A node of list A."""
     return begun(program, ["node", "catalog.csv", "A"], conns, before)
 
 
-def server(program: str, conns: int, before: tuple[str, ...] = ()) -> Started:
+def server(program: str, conns: int, before: tuple[str, ...] = ()) -> Listening:
     """A server over both lists."""
     return begun(program, ["serve", "catalog.csv"], conns, before)
 
@@ -99,13 +74,13 @@ def connected(port: int, host: str = "127.0.0.1") -> socket.socket:
             time.sleep(0.02)
 
 
-def received(link: socket.socket, piece: int = 65536, pause: float = 0) -> bytes:
-    """What comes of a connection until it is closed or broken off, read in such pieces with such pauses."""
+def slowly_received(link: socket.socket) -> bytes:
+    """What comes of a connection until it is closed or broken off, read piece by piece with pauses."""
     parts = []
     with contextlib.suppress(ConnectionError):
-        while part := link.recv(piece):
+        while part := link.recv(8192):
             parts.append(part)
-            time.sleep(pause)
+            time.sleep(0.001)
     return b"".join(parts)
 
 
@@ -116,20 +91,11 @@ def asked(port: int, request: bytes, host: str = "127.0.0.1") -> bytes:
         return received(link)
 
 
-def ended(process: subprocess.Popen[bytes], status: int, output: bytes) -> str | None:
-    """What is wrong with how a process ended, or None."""
-    out, _ = process.communicate(timeout=SECONDS)
-    if (process.returncode, out) != (status, output):
-        return f"ended with {process.returncode} and {out!r}, not with {status} and {output!r}"
-    return None
-
-
 def injected(error: str, when: str = "1..3") -> tuple[str, ...]:
     """The words of a tracer by which these calls of `accept` have this error."""
-    if shutil.which("strace") is None:
-        raise Skipped("there is no strace")
+    path = path_of("strace")
     what = f"inject=accept4:error={error}:when={when}"
-    return ("strace", "-f", "-qq", "-o", "/dev/null", "-e", "trace=accept4", "-e", what)
+    return (path, "-f", "-qq", "-o", "/dev/null", "-e", "trace=accept4", "-e", what)
 
 
 def passed_over(program: str, error: str) -> str | None:
@@ -185,7 +151,7 @@ def slowly(port: int, head: str) -> bytes:
 
         sender = threading.Thread(target=send)
         sender.start()
-        given = received(link, 8192, 0.001)
+        given = slowly_received(link)
         sender.join()
         return given
 
@@ -234,25 +200,28 @@ def client_that_stays(program: str) -> str | None:
 
 
 def both_families(program: str) -> str | None:
-    """A node and a server are reached by IPv4 and by IPv6, and a port that is taken is refused."""
+    """A node and a server are reached by IPv4, and by IPv6 where the machine has it, and a port that is taken is
+    refused."""
     try:
         socket.create_server(("::1", 0), family=socket.AF_INET6).close()
-    except OSError as fault:
-        raise Skipped(f"there is no IPv6: {fault.strerror}") from None
-    for kind, request in ((node, SIZE), (server, b"GET /top?q= HTTP/1.1\r\nHost: h\r\n\r\n")):
-        with kind(program, 3) as (port, process):
-            replies = [asked(port, request, host) for host in ("127.0.0.1", "::1", "127.0.0.1")]
+        hosts = [(socket.AF_INET, "127.0.0.1"), (socket.AF_INET6, "::1")]
+    except OSError:
+        hosts = [(socket.AF_INET, "127.0.0.1")]
+    for kind, sent in ((node, SIZE), (server, b"GET /top?q= HTTP/1.1\r\nHost: h\r\n\r\n")):
+        with kind(program, len(hosts) + 1) as (port, process):
+            replies = [asked(port, sent, host) for _, host in [*hosts, hosts[0]]]
             if len(set(replies)) != 1 or not replies[0].startswith(b"HTTP/1.1 200 OK\r\n"):
                 return f"{kind.__name__}: replied {replies!r}"
-            wrong = ended(process, 0, b"served 3\n")
+            wrong = ended(process, 0, b"served %d\n" % len(replies))
             if wrong is not None:
                 return f"{kind.__name__}: {wrong}"
-    for family, host in ((socket.AF_INET, "127.0.0.1"), (socket.AF_INET6, "::")):
-        listening = socket.create_server((host, 0), family=family, dualstack_ipv6=host == "::")
+    for family, host in hosts:
+        address, both = ("::", True) if host == "::1" else (host, False)
+        listening = socket.create_server((address, 0), family=family, dualstack_ipv6=both)
         with listening as taken, tempfile.TemporaryDirectory() as place:
-            catalog(place)
-            words = [program, "node", "catalog.csv", "A", "--at", str(taken.getsockname()[1])]
-            status = subprocess.run(words, cwd=place, capture_output=True, timeout=SECONDS, check=False).returncode
+            write_lists(place, LISTS)
+            words = ["node", "catalog.csv", "A", "--at", str(taken.getsockname()[1])]
+            status = run(program, words, place=place).returncode
             if status != 7:
                 return f"a port that is taken at {host} gave status {status}"
     return None
@@ -260,20 +229,15 @@ def both_families(program: str) -> str | None:
 
 def host_looked_up_once(program: str) -> str | None:
     """A run over a list of a host asks for the host's address once, however many calls it makes."""
-    if shutil.which("strace") is None:
-        raise Skipped("there is no strace")
-    if not any(it[4][0] == "127.0.0.1" for it in socket.getaddrinfo("localhost", 80, type=socket.SOCK_STREAM)):
-        raise Skipped("localhost isn't 127.0.0.1")
+    strace = path_of("strace")
+    found = socket.getaddrinfo("localhost", 80, type=socket.SOCK_STREAM)
+    needs("" if any(it[4][0] == "127.0.0.1" for it in found) else "localhost isn't 127.0.0.1")
     with node(program, 1_000_000) as (port, _), tempfile.TemporaryDirectory() as place:
         connected(port).close()
-        path = pathlib.Path(place)
-        text = f"name,place,random\nA,http://localhost:{port}/lists/A,yes\n"
-        path.joinpath("catalog.csv").write_text(text, encoding="ascii")
-        command = ["strace", "-f", "-qq", "-o", "trace", "-e", "trace=openat,connect"]
-        command += [program, "run", "--page", "1", "catalog.csv"]
-        line = b"top 9 by A using nra\n"
-        done = subprocess.run(command, input=line, cwd=place, capture_output=True, timeout=SECONDS, check=False)
-        trace = path.joinpath("trace").read_text(encoding="utf8", errors="replace")
+        write(place, "catalog.csv", catalog({"A": f"http://localhost:{port}/lists/A"}))
+        words = ["-f", "-qq", "-o", "trace", "-e", "trace=openat,connect", program, "run", "--page", "1", "catalog.csv"]
+        done = run(strace, words, b"top 9 by A using nra\n", place)
+        trace = (pathlib.Path(place) / "trace").read_text(encoding="utf8", errors="replace")
         dials, lookups = len(re.findall(rf"connect\(.*htons\({port}\)", trace)), trace.count('"/etc/hosts"')
         if done.returncode != 0 or dials < 9 or lookups != 1:
             return f"ended with {done.returncode}; {dials} connections, {lookups} looks at the hosts"
@@ -281,37 +245,10 @@ def host_looked_up_once(program: str) -> str | None:
 
 
 def tests() -> Iterator[tuple[str, Callable[[str], str | None]]]:
-    """Names with what runs the test of a program: it answers what is wrong, or None, or raises Skipped."""
+    """Each test with its name."""
     for error in PASSING + WANTING:
-        yield f"port_edge_passes_{error}", functools.partial(passed_over, error=error)
+        yield f"port_edge_passes_{error}", over_network(functools.partial(passed_over, error=error))
     for error in ENDING:
-        yield f"port_edge_ends_{error}", functools.partial(gives_up, error=error)
+        yield f"port_edge_ends_{error}", over_network(functools.partial(gives_up, error=error))
     for test in (few_descriptors, whole_replies, client_that_stays, both_families, host_looked_up_once):
-        yield f"port_edge_{test.__name__}", test
-
-
-def main() -> int:
-    """Runs the tests that were named, or all."""
-    words = argparse.ArgumentParser(description="Tests of the edge of the port.")
-    words.add_argument("--program", default=str(PROGRAM))
-    words.add_argument("names", nargs="*")
-    given = words.parse_args()
-    program, counts = str(pathlib.Path(given.program).resolve()), {"passed": 0, "failed": 0, "skipped": 0}
-    for name, test in tests():
-        if given.names and name not in given.names:
-            continue
-        try:
-            wrong = test(program)
-            result = "passed" if wrong is None else "failed"
-        except Skipped as lack:
-            wrong, result = str(lack), "skipped"
-        except (OSError, subprocess.TimeoutExpired) as fault:
-            wrong, result = f"{type(fault).__name__}: {fault}", "failed"
-        counts[result] += 1
-        print(f"{result} {name}" + (f": {wrong}" if wrong else ""), flush=True)
-    print(", ".join(f"{count} {result}" for result, count in counts.items()))
-    return 1 if counts["failed"] else 0
-
-
-if __name__ == "__main__":
-    sys.exit(main())
+        yield f"port_edge_{test.__name__}", over_network(test)

@@ -9,8 +9,8 @@ import tempfile
 from collections.abc import Callable, Iterator
 
 from machine import path_of, peer
+from support import REPOSITORY
 
-ROOT = pathlib.Path(__file__).resolve().parent.parent
 
 # Where the version stands besides, and how.
 PLACES = {
@@ -25,7 +25,7 @@ LIBRARY = {"lib/libtopk.a", "lib/libtopk.so", "lib/pkgconfig/topk.pc", "include/
 
 def version() -> str:
     """The version of all that the repository hands out."""
-    return (ROOT / "VERSION").read_text(encoding="utf-8").strip()
+    return (REPOSITORY / "VERSION").read_text(encoding="utf-8").strip()
 
 
 def version_is_one(_: str) -> str | None:
@@ -33,9 +33,9 @@ def version_is_one(_: str) -> str | None:
     if not re.fullmatch(r"\d+\.\d+\.\d+", version()):
         return f"VERSION has {version()!r}"
     for name, form in PLACES.items():
-        if not (ROOT / name).parent.is_dir():  # A part that this checkout hasn't.
+        if not (REPOSITORY / name).parent.is_dir():  # A part that this checkout hasn't.
             continue
-        found = re.search(form, (ROOT / name).read_text(encoding="utf-8"), re.MULTILINE)
+        found = re.search(form, (REPOSITORY / name).read_text(encoding="utf-8"), re.MULTILINE)
         if found is None or found.group(1) != version():
             return f"{name} states {found and found.group(1)!r} in place of {version()!r}"
     return None
@@ -52,7 +52,7 @@ def library_is_installed(program: str) -> str | None:
         words = [f"DESTDIR={place}", "PREFIX=/opt/topk", f"PROGRAM={program}", f"LIBRARY={built}"]
         goals: list[tuple[str, set[str]]] = [("install", LIBRARY), ("uninstall", set())]
         for goal, wanted in goals:
-            done = peer([make, "-s", "-C", str(ROOT), goal, *words], text=True)
+            done = peer([make, "-s", "-C", str(REPOSITORY), goal, *words], text=True)
             if done.returncode != 0:
                 return f"make {goal} ended with {done.returncode}: {done.stderr[:300]}"
             files = [it for folder in ("lib", "include") for it in (prefix / folder).rglob("*") if it.is_file()]
@@ -71,7 +71,7 @@ def program_is_made_where_its_sources_changed(_: str) -> str | None:
     make = path_of("make")
     with tempfile.TemporaryDirectory() as place:
         top = pathlib.Path(place)
-        shutil.copy(ROOT / "Makefile", top)
+        shutil.copy(REPOSITORY / "Makefile", top)
         sources = ["crates.txt", "HANDLES"]
         sources += [f"crates/topk/{name}" for name in ("src/main.rt", "specs/Lib.antt", "proofs/main/Answers.antt")]
         others = ["crates/topk/out/kept.rt", "crates/test_a/src/lib.rt", "README.md"]
