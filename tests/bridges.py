@@ -215,7 +215,7 @@ def sqlite() -> Iterator[Base]:
         yield Sqlite(place)
 
 
-_STARTING = threading.Lock()
+_CLUSTER = threading.Lock()
 
 
 @functools.lru_cache(None)
@@ -229,12 +229,12 @@ def cluster() -> Cluster | Skipped:
 
 @contextlib.contextmanager
 def postgres() -> Iterator[Base]:
-    """A database of its own."""
-    with _STARTING:
+    """A database of its own. One test at a time has the cluster, since a test may end all connections there."""
+    with _CLUSTER:
         found = cluster()
-    if isinstance(found, Skipped):
-        raise found
-    yield Postgres(found)
+        if isinstance(found, Skipped):
+            raise found
+        yield Postgres(found)
 
 
 @contextlib.contextmanager
