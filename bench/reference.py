@@ -198,7 +198,7 @@ class Run:
         return [(item, self.lows[item], self.high(item)) for item in first]
 
     def guarantee(self, items: Sequence[tuple[int, int, int]]) -> Optional[tuple[int, int]]:
-        """The two numbers of the line `guarantee`, where the algorithm has one."""
+        """The two numbers of the line `cert_text`, where the algorithm has one."""
         if self.query.algorithm == "theta":
             return self.query.factor
         if self.query.algorithm != "early":

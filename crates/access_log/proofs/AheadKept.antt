@@ -11,8 +11,8 @@ use Rattle.topk_theory.specs.Bounds.{known_grade}
 use Rattle.topk_theory.specs.Consistent.{SomeAgrees}
 use Rattle.topk_theory.proofs.AgreementLists.{slice_get_in_range, slice_get_reads}
 use Rattle.topk_theory.proofs.Agreement.{known_grade_given, known_grade_other_object, known_grade_other_list}
-use Rattle.indexed_heap.specs.Ranks.{rank_at, ranks_within}
-use Rattle.indexed_heap.proofs.Within.{rank_within}
+use Rattle.containers.specs.Ranks.{rank_at, ranks_within}
+use Rattle.containers.proofs.Within.{rank_within}
 use Rattle.ranked_list.proofs.OptionLaws.{option_cases}
 use Rattle.access_log.specs.RecordsKept.{is_read, grade_ahead, heap_at, AreAhead, AreWider, HaveRoom}
 use Rattle.access_log.proofs.RecordKept.{read_after, read_random, read_other_list, read_other_object}

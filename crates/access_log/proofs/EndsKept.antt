@@ -9,7 +9,7 @@ use Rattle.topk_theory.specs.Transcript.{list_of, grade_of, is_sorted, depth_of,
 use Rattle.topk_theory.proofs.Agreement.{depth_of_sorted, depth_of_other, depth_of_random, bottom_of_sorted, bottom_of_other, bottom_of_random}
 use Rattle.access_log.specs.RecordsKept.{AreEndsOf}
 use Rattle.access_log.specs.declared.ends.Ends.{Ends}
-use Rattle.limits.specs.declared.TheConstants.{MAX_LISTS}
+use Rattle.topk_base.specs.declared.TheConstants.{MAX_LISTS}
 
 sorted_count_push : (A : List Access) (a : Access) → sorted_count (A ++ a ∷ []) ≡ sorted_count A + cond (is_sorted a) 1 0
 sorted_count_push A a = sum_by-append (λ (b : Access). cond (is_sorted b) 1 0) A (a ∷ []) ∙ ap (λ n. sorted_count A + n) (sum_by-cons (λ (b : Access). cond (is_sorted b) 1 0) a [] ∙ add-zero (cond (is_sorted a) 1 0))

@@ -11,7 +11,7 @@ use Rattle.topk_theory.specs.Transcript.{named_objects}
 use Rattle.topk_theory.specs.Bounds.{known_grade}
 use Rattle.topk_theory.proofs.AgreementNames.{has, has_contains, has_not}
 use Rattle.topk_theory.proofs.Unseen.{unnamed_unknown}
-use Rattle.indexed_heap.specs.Ranks.{rank_at}
+use Rattle.containers.specs.Ranks.{rank_at}
 use Rattle.access_log.specs.RecordsKept.{AreAhead, IsGreatestAhead, heap_at, grade_ahead}
 use Rattle.access_log.proofs.RecordKept.{unnamed_unread}
 use Rattle.access_log.proofs.AheadKept.{at_any}

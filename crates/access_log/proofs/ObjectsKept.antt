@@ -17,12 +17,12 @@ use Rattle.topk_theory.proofs.Unseen.{unnamed_unknown}
 use Rattle.ranked_list.proofs.OptionLaws.{option_cases}
 use Rattle.access_log.specs.declared.record.Record.{Record}
 use Rattle.access_log.specs.declared.objects.Objects.{Objects}
-use Rattle.indexed_heap.proofs.Getting.{get_last, get_replicate}
+use Rattle.containers.proofs.Getting.{get_last, get_replicate}
 use Rattle.access_log.specs.RecordsKept.{IsRecordOf, AreRecords, AreAhead, AreWider, heap_at, is_read, grade_ahead}
 use Rattle.access_log.specs.Objects.{AreObjects, HasRoom, IsNoted, FitsAccess, IsPlaced}
 use Rattle.access_log.proofs.RecordKept.{record_other, unnamed_unread, placed, not_placed, place_of_absent}
 use Rattle.access_log.proofs.AheadKept.{ahead_wider, apart}
-use Rattle.limits.specs.declared.TheConstants.{MAX_LISTS}
+use Rattle.topk_base.specs.declared.TheConstants.{MAX_LISTS}
 
 -- a list with one more at its end
 get_pushed : (xs : List ℕ) (y place x : ℕ) → slice_get (xs ++ y ∷ []) place ≡ Some x

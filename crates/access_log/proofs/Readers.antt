@@ -22,7 +22,7 @@ use Rattle.topk_theory.proofs.ConsistentTable.{IsCoherent, agrees_coherent, give
 use Rattle.monotone_fn.specs.Tree.{Tree}
 use Rattle.monotone_fn.specs.Value as expression
 use Rattle.monotone_fn.specs.Limits.{AreGrades, AreGradesWhereKnown}
-use Rattle.indexed_heap.proofs.Getting.{get_replicate}
+use Rattle.containers.proofs.Getting.{get_replicate}
 use Rattle.access_log.specs.Log.{Log}
 use Rattle.access_log.specs.declared.record.Record.{Record}
 use Rattle.access_log.specs.declared.objects.Objects.{Objects}
@@ -31,7 +31,7 @@ use Rattle.access_log.specs.RecordsKept.{IsRecordOf, AreEndsOf}
 use Rattle.access_log.specs.Objects.{AreObjects, HasRoom}
 use Rattle.access_log.proofs.RecordKept.{placed, not_placed, place_of_absent}
 use Rattle.access_log.proofs.ObjectsKept.{seen_below_named}
-use Rattle.limits.specs.declared.TheConstants.{MAX_LISTS}
+use Rattle.topk_base.specs.declared.TheConstants.{MAX_LISTS}
 
 -- a list by its places
 pub taken : {X : Type 0} → (f : ℕ → X) (xs : List X) (m n : ℕ) (d : X) → length xs ≡ n → m ≤ n → ((k : ℕ) → k < m → slice_index_or xs k d ≡ f k)

@@ -18,7 +18,7 @@ use Rattle.topk_theory.proofs.Agreement.{sorted_rows_sorted, sorted_rows_other, 
 use Rattle.topk_theory.proofs.ConsistentTable.{given_named, sorted_given}
 use Rattle.access_log.specs.RecordsKept.{IsRecordOf, is_read}
 use Rattle.access_log.specs.declared.record.Record.{Record}
-use Rattle.limits.specs.declared.TheConstants.{MAX_LISTS}
+use Rattle.topk_base.specs.declared.TheConstants.{MAX_LISTS}
 
 -- a set place of a list of anything
 set_here : {X : Type 0} → (g : ℕ → X) (xs : List X) (i : ℕ) (v d : X) → i < length xs → g i ≡ v → (j : ℕ) → i ≡ j → slice_index_or (slice_set xs i v) j d ≡ g j

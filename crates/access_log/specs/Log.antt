@@ -5,7 +5,7 @@ use Rattle.ranked_list.specs.declared.row.Row.{Row}
 use Rattle.topk_theory.specs.declared.access.Access.{Access}
 use Rattle.topk_theory.specs.Transcript.{Agrees, object_of, named_objects}
 use Rattle.topk_theory.specs.Consistent.{Kind, number_of, IsFirstKind}
-use Rattle.limits.specs.declared.TheConstants.{MAX_LISTS, MAX_OBJECTS}
+use Rattle.topk_base.specs.declared.TheConstants.{MAX_LISTS, MAX_OBJECTS}
 
 -- how many lists, how many objects, the accesses in their order, and for how many more objects and accesses room is reserved
 pub record Log : Type 0 where

@@ -6,7 +6,7 @@ use Rattle.topk_theory.specs.Consistent.{SomeAgrees}
 use Rattle.access_log.specs.declared.record.Record.{Record}
 use Rattle.access_log.specs.RecordsKept.{AreAhead, HaveRoom, AreRecords, is_read}
 use Rattle.access_log.specs.declared.objects.Objects.{Objects}
-use Rattle.limits.specs.declared.TheConstants.{MAX_LISTS, MAX_OBJECTS}
+use Rattle.topk_base.specs.declared.TheConstants.{MAX_LISTS, MAX_OBJECTS}
 
 -- the objects are those that the accesses name, with their records, the seen ones in the order of first sight, and the grades ahead
 pub record AreObjects (m : ℕ) (A : List Access) (kept : Objects) : Type 0 where

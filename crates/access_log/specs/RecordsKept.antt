@@ -6,10 +6,10 @@ use Rattle.ranked_list.specs.Table.{objects}
 use Rattle.topk_theory.specs.declared.access.Access.{Access}
 use Rattle.topk_theory.specs.Transcript.{sorted_rows, depth_of, bottom_of, sorted_count, seen_objects}
 use Rattle.topk_theory.specs.Bounds.{known_grade}
-use Rattle.indexed_heap.specs.Ranks.{rank_at}
+use Rattle.containers.specs.Ranks.{rank_at}
 use Rattle.access_log.specs.declared.record.Record.{Record}
 use Rattle.access_log.specs.declared.ends.Ends.{Ends}
-use Rattle.limits.specs.declared.TheConstants.{MAX_LISTS}
+use Rattle.topk_base.specs.declared.TheConstants.{MAX_LISTS}
 
 -- whether a sorted access gave the object from the list
 abbrev pub is_read : List Access → ℕ → ℕ → Bool

@@ -7,9 +7,9 @@ ghost use Rattle.topk_theory.specs.Consistent.{SomeAgrees};
 ghost use Rattle.access_log.specs.RecordsKept.{AreAhead, AreWider, HaveRoom, IsGreatestAhead, heap_at, is_read};
 
 use super::Memory;
-use indexed_heap::IndexedHeap;
-use limits::MAX_OBJECTS;
+use containers::IndexedHeap;
 use std::alloc::Global;
+use topk_base::MAX_OBJECTS;
 use topk_theory::Access;
 
 /// For each list the grades that are known of objects which it hasn't given yet, by the objects'

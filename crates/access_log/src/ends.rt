@@ -6,7 +6,7 @@ ghost use Rattle.topk_theory.specs.declared.access.Access.{Access as Made};
 ghost use Rattle.topk_theory.specs.Transcript.{list_of};
 ghost use Rattle.access_log.specs.RecordsKept.{AreEndsOf};
 
-use limits::{MAX_LISTS, TOP_GRADE};
+use topk_base::{MAX_LISTS, TOP_GRADE};
 use topk_theory::Access;
 
 /// By the numbers of the lists how deep each is read and the last grade that it gave, and how many

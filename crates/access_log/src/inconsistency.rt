@@ -11,7 +11,7 @@ ghost use Rattle.access_log.specs.FirstKind.{IsFirstOf};
 use super::ends::Ends;
 use super::kinds::{ABOVE_TOP, NO_SUCH_LIST, TOO_MANY_OBJECTS, first_of_random, first_of_sorted};
 use super::objects::Objects;
-use limits::{MAX_LISTS, TOP_GRADE};
+use topk_base::{MAX_LISTS, TOP_GRADE};
 use topk_theory::Access;
 
 /// Whether an object without a place is one more than there may be, where `len` have one.

@@ -12,9 +12,9 @@ use super::Memory;
 use super::ahead::Ahead;
 use super::kinds::Known;
 use super::record::Record;
-use limits::{MAX_LISTS, MAX_OBJECTS};
-use object_map::RoomMap;
+use containers::RoomMap;
 use std::alloc::Global;
+use topk_base::{MAX_LISTS, MAX_OBJECTS};
 use topk_theory::Access;
 
 /// The record of an object that no access names.

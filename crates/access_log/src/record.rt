@@ -6,7 +6,7 @@ ghost use Rattle.topk_theory.specs.Transcript.{list_of, object_of, seen_objects}
 ghost use Rattle.topk_theory.specs.Consistent.{SomeAgrees};
 ghost use Rattle.access_log.specs.RecordsKept.{IsRecordOf};
 
-use limits::MAX_LISTS;
+use topk_base::MAX_LISTS;
 use topk_theory::Access;
 
 /// What the accesses tell of an object: by the numbers of the lists its known grades, and which lists

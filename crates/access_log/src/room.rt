@@ -5,7 +5,7 @@ ghost use Rattle.topk_theory.specs.declared.access.Access.{Access as Made};
 ghost use Rattle.access_log.specs.Objects.{AreObjects, HasRoom};
 
 use super::objects::Objects;
-use limits::{MAX_OBJECTS, Memory};
+use topk_base::{MAX_OBJECTS, Memory};
 use topk_theory::Access;
 
 /// Makes room for one more access, and for its object where that has no place yet.

@@ -6,11 +6,11 @@ use super::fault::PushFault;
 use super::inconsistency::first_kind;
 use super::objects::Objects;
 use super::room::{make_room, spare_after};
-use limits::{MAX_LISTS, MAX_NUMBER, MAX_OBJECTS};
 use monotone_fn::{Costs, Expr};
 use std::alloc::Global;
 use std::marker::Model;
 use std::slice::Iter;
+use topk_base::{MAX_LISTS, MAX_NUMBER, MAX_OBJECTS};
 use topk_theory::Access;
 
 /// The known grades of an object that no access names.

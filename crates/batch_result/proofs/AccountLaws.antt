@@ -18,7 +18,7 @@ use Rattle.topk_theory.specs.Transcript.{list_at, depth_of, list_numbers, object
 use Rattle.topk_theory.proofs.AgreementLists.{all_from_members, begins_splits, contains_at, contains_cases, contains_here, contains_map, contains_map_from, contains_nil, contains_there, distinct_fits, member_of_all}
 use Rattle.topk_theory.proofs.ListNumbers.{number_below}
 use Rattle.topk_theory.proofs.ThresholdLists.{contains_filter, contains_from_filter}
-use Rattle.zlist_core.specs.Lists.{reads}
+use Rattle.restricted_core.specs.Lists.{reads}
 use Rattle.access_log.specs.Log.{AgreesWith}
 use Rattle.machine_base.specs.Machine.{asked_of}
 use Rattle.source_state.specs.Log.{rows_in, fault_in}

@@ -8,14 +8,14 @@ use Rattle.source_state.specs.Log.{rows_in}
 use Rattle.source_state.specs.State.{State}
 use Rattle.source_state.specs.Looking.{reach_of}
 use Rattle.query_core.specs.declared.ready.Ready.{Ready}
-use Rattle.zlist_core.specs.Lists.{reads}
+use Rattle.restricted_core.specs.Lists.{reads}
 use Rattle.query_text.specs.declared.algorithm.Algorithm.{Algorithm}
 use Rattle.query_text.specs.declared.algorithm.Algorithm.TheVariants.{Taz}
 use Rattle.query_core.specs.Ready.{method_of_ready}
 use Rattle.query_core.specs.OneAnswer.{one_run_with}
 use Rattle.query_run.specs.declared.ended.Ended.{Ended}
 use Rattle.query_run.specs.declared.ended.Ended.TheVariants as ended
-use Rattle.limits.specs.declared.settings.Settings.{Settings}
+use Rattle.topk_base.specs.declared.settings.Settings.{Settings}
 use Rattle.batch_result.specs.declared.batch.Use.{Use}
 use Rattle.batch_result.specs.Tables.{lists_for}
 

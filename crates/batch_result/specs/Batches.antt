@@ -18,7 +18,7 @@ use Rattle.query_run.specs.Endings.{EndsAs, IsRight}
 use Rattle.fetcher.specs.declared.slot.Slot.{Slot}
 use Rattle.fetcher.specs.Moving.{TellsNoMove}
 use Rattle.fetcher.specs.Telling.{TellsOf}
-use Rattle.limits.specs.declared.settings.Settings.{Settings}
+use Rattle.topk_base.specs.declared.settings.Settings.{Settings}
 use Rattle.batch_result.specs.Numbered.{told_at, version_at, counts_at}
 use Rattle.batch_result.specs.Refusing.{IsRefusedByTurns}
 use Rattle.batch_result.specs.declared.batch.Use.{Use}

@@ -21,7 +21,7 @@ use Rattle.query_run.specs.Asking.{IsAskedFor, AsksGradeOf, grades_on}
 use Rattle.fetcher.specs.Causes.{HasGiven}
 use Rattle.fetcher.specs.Moving.{TellsMove}
 use Rattle.fetcher.specs.Metering.{WentUp, RoseBy}
-use Rattle.limits.specs.declared.settings.Settings.{Settings}
+use Rattle.topk_base.specs.declared.settings.Settings.{Settings}
 use Rattle.batch_result.specs.declared.batch.Use.{Use}
 
 -- a look's fault is that a call failed so

@@ -12,5 +12,5 @@ pub use laws::{
     told_lists_have_their_faults, told_tables_bound_a_cut_batch, told_tables_bound_the_uses,
     told_tables_end_or_fail, told_tables_give_the_one_ending,
 };
-pub use limits::Settings;
 pub use query_run::Ended;
+pub use topk_base::Settings;

@@ -13,7 +13,7 @@ use Rattle.source_pool.specs.Looks.{IsWithin}
 use Rattle.source_pool.specs.Sharing.{IsOpened, IsSplit, MaySplit}
 use Rattle.query_core.specs.declared.ready.Ready.{Ready}
 use Rattle.query_run.specs.Made.{IsReadyFor}
-use Rattle.limits.specs.declared.settings.Settings.{Settings}
+use Rattle.topk_base.specs.declared.settings.Settings.{Settings}
 use Rattle.batch_run.specs.declared.work.Worker.{Worker}
 use Rattle.batch_run.specs.Working.{DidOf, IsAtWork, Worked, AllWorked}
 use Rattle.batch_run.specs.Crews.{fresh_hold, IsHired, IsBase, IsHiring, HasLeft}

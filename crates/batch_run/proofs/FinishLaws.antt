@@ -37,8 +37,8 @@ use Rattle.fetcher.specs.Moving.{TellsMove}
 use Rattle.fetcher.specs.Metering.{RoseBy, WentUp}
 use Rattle.fetcher.proofs.ToldLaws.{fetched_from_nothing}
 use Rattle.fetcher.proofs.ClosedLaws.{called_for}
-use Rattle.limits.specs.declared.settings.Settings.{Settings}
-use Rattle.limits.specs.Ranges.{AreSettings}
+use Rattle.topk_base.specs.declared.settings.Settings.{Settings}
+use Rattle.topk_base.specs.Ranges.{AreSettings}
 use Rattle.batch_result.specs.Numbered.{told_at, version_at, counts_at}
 use Rattle.batch_result.specs.declared.batch.Use.{Use}
 use Rattle.batch_run.specs.declared.work.Worker.{Worker}

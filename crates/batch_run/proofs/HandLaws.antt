@@ -7,8 +7,8 @@ use Rattle.std.proofs.lemmas.List.{append_assoc, reverse-append, length-map, len
 use Rattle.std.proofs.lemmas.List.Elements.{All-pop}
 use Rattle.ranked_list.specs.declared.row.Row.{Row}
 use Rattle.atomic_table.specs.Seated.{TableId}
-use Rattle.limits.specs.declared.settings.Settings.{Settings}
-use Rattle.limits.specs.Ranges.{AreSettings}
+use Rattle.topk_base.specs.declared.settings.Settings.{Settings}
+use Rattle.topk_base.specs.Ranges.{AreSettings}
 use Rattle.keyed_lock.specs.declared.hold.Hold.{Hold}
 use Rattle.source_api.specs.declared.counts.Counts.{Counts}
 use Rattle.source_api.specs.Calls.{Call}

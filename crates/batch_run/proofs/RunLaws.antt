@@ -9,7 +9,7 @@ use Rattle.source_pool.specs.Passes.{hold_at, feed_at, IsPassOf, AreFeedersOf}
 use Rattle.source_api.specs.declared.counts.Counts.{Counts}
 use Rattle.source_api.specs.Counting.{NoneFell}
 use Rattle.fetcher.specs.declared.slot.Slot.{Slot}
-use Rattle.limits.specs.declared.settings.Settings.{Settings}
+use Rattle.topk_base.specs.declared.settings.Settings.{Settings}
 use Rattle.query_core.specs.declared.ready.Ready.{Ready}
 use Rattle.batch_run.specs.declared.work.Worker.{Worker}
 use Rattle.batch_run.specs.Slots.{SlotState, states_of, slot_at, AllFetch, AreLent, AreTakenBack}

@@ -15,7 +15,7 @@ use Rattle.fetcher.specs.Chaining.{moment, IsFetched}
 use Rattle.fetcher.specs.Metering.{IsMetered, nothing}
 use Rattle.fetcher.specs.Moving.{MovesOnly}
 use Rattle.batch_result.specs.Using.{IsReplaced}
-use Rattle.limits.specs.declared.settings.Settings.{Settings}
+use Rattle.topk_base.specs.declared.settings.Settings.{Settings}
 use Rattle.batch_run.specs.Slots.{SlotState, state_of, states_of, slot_at, HasFeeder, Fetches, AllFetch, AreLent, AreTakenBack}
 use Rattle.batch_run.specs.Crews.{HasFetched}
 use Rattle.batch_result.proofs.Places.{map_at, stands_at, lent_back}

@@ -16,7 +16,7 @@ use Rattle.query_run.proofs.TurnOpening.{opened_length, opened_sound}
 use Rattle.fetcher.specs.declared.slot.Slot.{Slot}
 use Rattle.fetcher.specs.Telling.{TellsOf}
 use Rattle.fetcher.proofs.CauseLaws.{comes_none}
-use Rattle.limits.specs.declared.settings.Settings.{Settings}
+use Rattle.topk_base.specs.declared.settings.Settings.{Settings}
 use Rattle.batch_result.specs.declared.batch.Use.{Use}
 use Rattle.batch_result.specs.Batches.{BatchRun, IsClosing, IsHonestFor, run_of, size_at, use_at}
 use Rattle.batch_result.specs.Numbered.{told_at, counts_at}

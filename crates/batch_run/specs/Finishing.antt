@@ -5,8 +5,8 @@ use Rattle.source_state.specs.State.{State}
 use Rattle.query_core.specs.declared.ready.Ready.{Ready}
 use Rattle.query_run.specs.declared.ended.Ended.{Ended}
 use Rattle.fetcher.specs.declared.turned.Fetched.{Fetched}
-use Rattle.limits.specs.declared.settings.Settings.{Settings}
-use Rattle.limits.specs.Ranges.{AreSettings}
+use Rattle.topk_base.specs.declared.settings.Settings.{Settings}
+use Rattle.topk_base.specs.Ranges.{AreSettings}
 use Rattle.batch_result.specs.declared.batch.Use.{Use}
 use Rattle.batch_run.specs.declared.work.Worker.{Worker}
 use Rattle.batch_run.specs.declared.hire.Crew.{Crew}

@@ -13,7 +13,7 @@ use Rattle.fetcher.specs.Chaining.{moment, IsFetched}
 use Rattle.fetcher.specs.Metering.{IsMetered, nothing}
 use Rattle.fetcher.specs.Moving.{MovesOnly}
 use Rattle.batch_result.specs.Using.{IsReplaced}
-use Rattle.limits.specs.declared.settings.Settings.{Settings}
+use Rattle.topk_base.specs.declared.settings.Settings.{Settings}
 
 -- a slot of any kind of source: the list that its source tells, its version that is at hand, what the source counted, its feeder, and what was fetched
 pub record SlotState : Type 0 where

@@ -5,7 +5,7 @@ ghost use Rattle.std.specs.List.{list_any};
 ghost use Rattle.source_state.specs.State.{state_at};
 ghost use Rattle.query_core.specs.declared.ready.Ready.{Ready};
 ghost use Rattle.query_run.specs.declared.ended.Ended.{Ended as EndedOf};
-ghost use Rattle.limits.specs.declared.settings.Settings.{Settings};
+ghost use Rattle.topk_base.specs.declared.settings.Settings.{Settings};
 ghost use Rattle.batch_run.specs.Slots.{SlotState, states_of, slot_at};
 ghost use Rattle.batch_result.specs.Batches.{IsBatch, use_at};
 ghost use Rattle.batch_result.specs.Cut.{IsCut};

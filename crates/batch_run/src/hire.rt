@@ -6,10 +6,10 @@ ghost use Rattle.batch_run.specs.Crews.{IsHiring, IsNewCrew};
 
 use super::work::Worker;
 use batch_result::Use;
-use limits::MAX_OBJECTS;
 use query_run::{Ended, Memory};
 use source_pool::{Feeder, Pool, PoolPass};
 use std::alloc::Global;
+use topk_base::MAX_OBJECTS;
 
 /// The pool of a batch with its first pass and its feeders, the workers, and room for what the batch gives.
 #[derive(Drop)]

@@ -5,7 +5,7 @@ ghost use Rattle.std.specs.List.{AllZip};
 ghost use Rattle.source_api.specs.Counting.{NoneFell};
 ghost use Rattle.query_run.specs.Made.{IsReadyFor};
 ghost use Rattle.query_run.specs.Endings.{IsRight};
-ghost use Rattle.limits.specs.Ranges.{AreSettings};
+ghost use Rattle.topk_base.specs.Ranges.{AreSettings};
 ghost use Rattle.batch_result.specs.Batches.{run_of, IsBatch};
 ghost use Rattle.batch_result.specs.Cut.{IsCut};
 
@@ -15,13 +15,13 @@ use super::lending::{lend, take_back};
 use super::sides::run_sides;
 use batch_result::{Batch, Settings};
 use fetcher::Slot;
-use limits::MAX_OBJECTS;
 use query_core::Ready;
 use query_run::Memory;
 use source_api::Source;
 use std::alloc::Global;
 use std::sync::Wait;
 use std::thread::Threads;
+use topk_base::MAX_OBJECTS;
 
 /// Runs all queries over the sources, those of the same numbers, which have so many objects each: as many workers as the settings say, at
 /// the same time, and beside them one fetcher a source. A worker runs, one after another and in their order, the queries whose place

@@ -1,7 +1,7 @@
 //! The two sides of a run: the fetchers, and the workers.
 
 ghost use Rattle.std.specs.Prelude.{◌≡◌, ◌≤◌, ◌<◌, ◌^◌, All, length, vec_len};
-ghost use Rattle.limits.specs.Ranges.{AreSettings};
+ghost use Rattle.topk_base.specs.Ranges.{AreSettings};
 ghost use Rattle.fetcher.specs.Metering.{nothing};
 ghost use Rattle.keyed_lock.specs.Hold.{share_of};
 ghost use Rattle.fetcher.specs.Posting.{ArePosts};

@@ -6,11 +6,11 @@
 mod bare;
 mod whole;
 
-use limits::MAX_BODY;
 use std::alloc::Global;
 use std::env::Env;
 use std::io;
 use tk_io::{StdIntake, read_text};
+use topk_base::MAX_BODY;
 
 /// How often the response is read.
 const ROUNDS: u32 = 100;

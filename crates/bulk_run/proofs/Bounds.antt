@@ -18,11 +18,11 @@ use Rattle.topk_theory.specs.Aggregate.{aggregate, grades_of}
 use Rattle.topk_theory.specs.Asked.{Asked}
 use Rattle.topk_theory.specs.Threshold.{item_objects}
 use Rattle.topk_theory.proofs.AgreementLists.{all_from_members, member_of_all, contains_map_from}
-use Rattle.optimal_law.proofs.Depths.{depth_seen, seen_sorted}
+use Rattle.algorithm_theory.proofs.NearBestDepths.{depth_seen, seen_sorted}
 use Rattle.access_log.proofs.Readers.{counts}
 use Rattle.machine_base.specs.declared.answer.Answer.{Answer}
-use Rattle.theta_theory.specs.Within.{Factor}
-use Rattle.guarantee.specs.Guarantee.{guarantee_by}
+use Rattle.algorithm_theory.specs.Within.{Factor}
+use Rattle.cert_text.specs.Guarantee.{guarantee_by}
 use Rattle.query_core.specs.Methods.{IsGoodBy}
 use Rattle.query_core.specs.OneAnswer.{IsOneAnswer, HasTrueBounds, asked_by, method_for, one_run}
 use Rattle.query_core.proofs.RunLength.{run_short}

@@ -13,7 +13,7 @@ use Rattle.query_run.specs.declared.ended.Ended.{Ended}
 use Rattle.query_run.specs.declared.ended.Ended.TheVariants.{Answered, Core, Look}
 use Rattle.fetcher.specs.declared.slot.Slot.{Slot}
 use Rattle.bulk_run.proofs.TableLaws.{table_told}
-use Rattle.limits.specs.declared.settings.Settings.{Settings}
+use Rattle.topk_base.specs.declared.settings.Settings.{Settings}
 use Rattle.batch_result.specs.Numbered.{counts_at}
 use Rattle.batch_result.specs.Batches.{BatchState, BatchRun, run_of, IsBatch}
 use Rattle.batch_result.specs.Tables.{lists_for, TellsTables, EndsOver}

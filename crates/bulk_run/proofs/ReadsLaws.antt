@@ -16,8 +16,8 @@ use Rattle.query_run.specs.declared.inquiry.Inquiry.{Inquiry}
 use Rattle.fetcher.specs.declared.slot.Slot.{Slot}
 use Rattle.fetcher.specs.Metering.{WentUp}
 use Rattle.fetcher.proofs.ReachLaws.{reach_more, reach_within}
-use Rattle.limits.specs.declared.settings.Settings.{Settings}
-use Rattle.limits.specs.Ranges.{AreSettings}
+use Rattle.topk_base.specs.declared.settings.Settings.{Settings}
+use Rattle.topk_base.specs.Ranges.{AreSettings}
 use Rattle.batch_result.specs.declared.batch.Use.{Use}
 use Rattle.batch_result.specs.Account.{Reading, IsWithin, deepest, one_reading, one_readings}
 use Rattle.batch_result.specs.Batches.{BatchRun, BatchState, IsBatch, run_of, size_at, use_at}

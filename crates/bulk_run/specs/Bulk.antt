@@ -1,6 +1,6 @@
 -- What is written of made queries over a made table. How they are run is nowhere in it.
 use Rattle.std.specs.Prelude.{ℕ, List}
-use Rattle.command_words.specs.declared.bulking.BulkOptions.{BulkOptions}
+use Rattle.command_line.specs.declared.bulking.BulkOptions.{BulkOptions}
 use Rattle.bulk_run.specs.declared.input.BulkInput.{BulkInput}
 use Rattle.bulk_run.specs.Sums.{bulk_sums}
 use Rattle.bulk_run.specs.Text.{sums_text}

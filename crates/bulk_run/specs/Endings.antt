@@ -14,7 +14,7 @@ use Rattle.query_run.specs.declared.ended.Ended.TheVariants.{Answered, Core, Loo
 use Rattle.bulk_run.specs.declared.input.BulkInput.{BulkInput}
 use Rattle.bulk_run.specs.declared.sums.BulkSums.{BulkSums}
 use Rattle.bulk_run.specs.Sums.{table_of, query_of}
-use Rattle.limits.specs.declared.TheConstants.{MAX_QUERIES}
+use Rattle.topk_base.specs.declared.TheConstants.{MAX_QUERIES}
 
 -- the query with a number is ready to run over the lists of the table, in their order, all of which can be read in order
 pub record IsMadeReady (input : BulkInput) (number : ℕ) (ready : Ready) : Type 0 where

@@ -5,7 +5,7 @@ use Rattle.topk_theory.specs.Transcript.{list_numbers}
 use Rattle.source_state.specs.Looking.{reach_of}
 use Rattle.query_core.specs.OneAnswer.{one_run}
 use Rattle.fetcher.specs.declared.slot.Slot.{Slot}
-use Rattle.limits.specs.declared.settings.Settings.{Settings}
+use Rattle.topk_base.specs.declared.settings.Settings.{Settings}
 use Rattle.batch_result.specs.Account.{Reading, deepest, random_accesses}
 use Rattle.bulk_run.specs.declared.input.BulkInput.{BulkInput}
 use Rattle.bulk_run.specs.Held.{Held}

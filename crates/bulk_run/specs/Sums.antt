@@ -9,7 +9,7 @@ use Rattle.made_inputs.specs.MadeQueries.{made_query}
 use Rattle.query_core.specs.OneAnswer.{one_run, one_items}
 use Rattle.bulk_run.specs.declared.input.BulkInput.{BulkInput}
 use Rattle.bulk_run.specs.declared.sums.BulkSums.{BulkSums}
-use Rattle.limits.specs.declared.TheConstants.{MAX_LISTS, MAX_OBJECTS, MAX_QUERIES}
+use Rattle.topk_base.specs.declared.TheConstants.{MAX_LISTS, MAX_OBJECTS, MAX_QUERIES}
 
 -- the numbers are within the limits
 pub record IsInput (input : BulkInput) : Type 0 where

@@ -1,24 +1,23 @@
 //! The command `bulk`: made queries over a made table.
 
 ghost use Rattle.std.specs.Prelude.{◌≡◌, ◌≤◌, ℕ, List, IfOk};
-ghost use Rattle.command_words.specs.Bulking.{AreBulkOptions};
+ghost use Rattle.command_line.specs.Bulking.{AreBulkOptions};
 ghost use Rattle.bulk_run.specs.Sums.{bulk_sums};
 ghost use Rattle.bulk_run.specs.Bulk.{input_of, bulk_text};
-ghost use Rattle.call_ends.specs.Shelves.{Shelf};
-ghost use Rattle.call_ends.specs.Calls.{Input, output_as, outside_of, call_at};
-ghost use Rattle.call_ends.specs.Ends.{EndsWriting};
+ghost use Rattle.command_line.specs.Shelves.{Shelf};
+ghost use Rattle.command_line.specs.Calls.{Input, output_as, outside_of, call_at};
+ghost use Rattle.command_line.specs.Ends.{EndsWriting};
 
 use super::input::BulkInput;
 use super::run::run_bulk;
 use super::sums::BulkSums;
 use super::writing::write_sums;
-use call_ends::{Status, ended};
-use command_words::BulkOptions;
-use limits::Memory;
+use command_line::{BulkOptions, Status, ended};
 use std::alloc::Global;
 use std::sync::Wait;
 use std::thread::Threads;
 use tk_io::Sink;
+use topk_base::Memory;
 
 /// Runs the made queries that the options ask for, and writes the sums over their answers.
 pub fn bulk<W: Threads + Wait + Sync, K: Sink>(

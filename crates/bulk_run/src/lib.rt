@@ -14,9 +14,9 @@ mod writing;
 
 pub use bulking::bulk;
 pub use input::BulkInput;
-pub use limits::Memory;
 pub use made_source::MadeSource;
 pub use run::{run_bulk, run_over};
 pub use slots::{let_go, table_slots};
 pub use sums::BulkSums;
+pub use topk_base::Memory;
 pub use writing::write_sums;

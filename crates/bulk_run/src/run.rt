@@ -1,7 +1,7 @@
 //! The run.
 
 ghost use Rattle.std.specs.Prelude.{◌≡◌, IfOk, map, replicate};
-ghost use Rattle.limits.specs.Ranges.{AreSettings};
+ghost use Rattle.topk_base.specs.Ranges.{AreSettings};
 ghost use Rattle.bulk_run.specs.Held.{fresh_slot};
 ghost use Rattle.bulk_run.specs.Sums.{IsInput, table_of, bulk_sums};
 ghost use Rattle.bulk_run.specs.Endings.{AreMadeReady, AllEndInOne};

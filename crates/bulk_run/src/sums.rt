@@ -4,7 +4,7 @@ ghost use Rattle.std.specs.Prelude.{◌≡◌, ◌≤◌, ◌^◌, [], All, leng
 ghost use Rattle.std.specs.List.{sum_by};
 ghost use Rattle.query_run.specs.declared.ended.Ended.TheVariants.{Answered};
 ghost use Rattle.bulk_run.specs.Endings.{sums_over, IsSmall, HasRoom, with_answer, with_ending};
-ghost use Rattle.limits.specs.declared.TheConstants.{MAX_QUERIES};
+ghost use Rattle.topk_base.specs.declared.TheConstants.{MAX_QUERIES};
 
 use access_log::Items;
 use cert_text::depth_of;

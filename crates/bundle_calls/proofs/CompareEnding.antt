@@ -2,11 +2,11 @@
 use Rattle.std.proofs.Common.{◌≡◌, ℕ, List, inl, inr, sym, subst}
 use Rattle.bundle_calls.specs.Outcomes.{SaysReply}
 use Rattle.bundle_calls.specs.Compare.{Compares}
-use Rattle.call_ends.specs.Calls.{Call, ReadWhole, WroteWhole}
-use Rattle.call_ends.specs.Ends.{EndsReading, Says}
-use Rattle.call_ends.specs.declared.status.Status.{Status}
-use Rattle.call_ends.specs.declared.status.Status.TheVariants.{Done, Partial, BadInput}
-use Rattle.call_ends.proofs.Ending.{read_all}
+use Rattle.command_line.specs.Calls.{Call, ReadWhole, WroteWhole}
+use Rattle.command_line.specs.Ends.{EndsReading, Says}
+use Rattle.command_line.specs.declared.status.Status.{Status}
+use Rattle.command_line.specs.declared.status.Status.TheVariants.{Done, Partial, BadInput}
+use Rattle.command_line.proofs.Ending.{read_all}
 
 -- a reply has one of three statuses
 is_status : {A : Type 0} (bytes : List ℕ) (status : Status) (text : List ℕ) → Compares bytes status text → (status ≡ Done → A) → (status ≡ Partial → A)

@@ -2,7 +2,7 @@
 use Rattle.std.proofs.Common.{◌≡◌, ℕ, ◌≤◌, Bool, true, false, List, [], length, replicate, Contains, Option, Some, None, Result, Ok, Err, IfOk, inl, inr, refl, sym, ap, ap₂, ◌∙◌, subst, arith}
 use Rattle.std.proofs.lemmas.List.{length-take-le, length-replicate, get_or-replicate}
 use Rattle.ranked_list.specs.declared.row.Row.{Row}
-use Rattle.line_text.specs.Lines.{lines}
+use Rattle.topk_base.specs.Lines.{lines}
 use Rattle.monotone_fn.specs.Value.{value, IsMonotone}
 use Rattle.monotone_fn.proofs.Laws.{value-monotone}
 use Rattle.topk_theory.specs.declared.access.Access.{Access}
@@ -12,10 +12,10 @@ use Rattle.topk_theory.proofs.AgreementLists.{contains_at}
 use Rattle.topk_theory.proofs.AgreementRows.{list_at_length}
 use Rattle.topk_theory.proofs.ThresholdLaws.{least_depth}
 use Rattle.topk_theory.proofs.ThresholdRun.{run_rows}
-use Rattle.optimal_law.proofs.Depths.{depth_is}
-use Rattle.fa_theory.specs.Fagin.{fa_depth, fa_run}
-use Rattle.fa_theory.proofs.Least.{ta_is_no_deeper}
-use Rattle.fa_theory.proofs.Runs.{fa_run_depth}
+use Rattle.algorithm_theory.proofs.NearBestDepths.{depth_is}
+use Rattle.algorithm_theory.specs.Fagin.{fa_depth, fa_run}
+use Rattle.algorithm_theory.proofs.FaginLeast.{ta_is_no_deeper}
+use Rattle.algorithm_theory.proofs.FaginRuns.{fa_run_depth}
 use Rattle.machine_base.specs.declared.answer.Answer.{Answer}
 use Rattle.query_text.specs.declared.algorithm.Algorithm.{Algorithm}
 use Rattle.query_text.specs.declared.algorithm.Algorithm.TheVariants.{Ta, Nra, Ca, Fa, Theta, Early, Taz}

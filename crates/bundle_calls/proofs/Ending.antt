@@ -7,11 +7,11 @@ use Rattle.cert_text.specs.declared.outcome.Outcome.TheVariants.{Answered, Refus
 use Rattle.bundle_calls.specs.Judge.{JudgeReplies, told_status}
 use Rattle.bundle_calls.specs.Reply.{Replies, outcome_status}
 use Rattle.bundle_calls.specs.Outcomes.{SaysReply}
-use Rattle.call_ends.specs.Calls.{Call, ReadWhole, WroteWhole}
-use Rattle.call_ends.specs.Ends.{EndsReading, Says}
-use Rattle.call_ends.specs.declared.status.Status.{Status}
-use Rattle.call_ends.specs.declared.status.Status.TheVariants.{Done, Partial}
-use Rattle.call_ends.proofs.Ending.{read_all}
+use Rattle.command_line.specs.Calls.{Call, ReadWhole, WroteWhole}
+use Rattle.command_line.specs.Ends.{EndsReading, Says}
+use Rattle.command_line.specs.declared.status.Status.{Status}
+use Rattle.command_line.specs.declared.status.Status.TheVariants.{Done, Partial}
+use Rattle.command_line.proofs.Ending.{read_all}
 
 -- the status of an outcome is Done or Partial
 is_outcome_status : {A : Type 0} (outcome : Outcome) (status : Status) → status ≡ outcome_status outcome → (status ≡ Done → A) → (status ≡ Partial → A) → A

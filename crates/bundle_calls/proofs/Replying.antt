@@ -1,7 +1,7 @@
 -- A reply as the code keeps it is what its input is replied to.
 use Rattle.std.proofs.Common.{◌≡◌, ℕ, List, inl, inr, refl, sym, subst}
-use Rattle.line_text.specs.Lines.{lines}
-use Rattle.line_text.proofs.LineLaws.{lines-unlines}
+use Rattle.topk_base.specs.Lines.{lines}
+use Rattle.topk_base.proofs.LineLaws.{lines-unlines}
 use Rattle.bundle_calls.specs.declared.replies.Reply.{Reply}
 use Rattle.bundle_calls.specs.declared.replies.Reply.TheVariants.{NoBundle, Line}
 use Rattle.bundle_calls.specs.Reply.{RepliesToLines, Replies}

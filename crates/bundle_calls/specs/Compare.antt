@@ -2,7 +2,7 @@
 use Rattle.std.specs.Prelude.{◌≡◌, ◌≤◌, ◌⊎◌, ℕ, List, [], ◌∷◌, ◌++◌, length, codes, Option, None, Ok}
 use Rattle.std.specs.List.{concat}
 use Rattle.std.specs.Fmt.{decimal}
-use Rattle.line_text.specs.Lines.{lines}
+use Rattle.topk_base.specs.Lines.{lines}
 use Rattle.ranked_list.specs.declared.row.Row.{Row}
 use Rattle.monotone_fn.specs.declared.costs.Costs.{Costs}
 use Rattle.topk_theory.specs.declared.access.Access.{Access}
@@ -24,8 +24,8 @@ use Rattle.query_admission.specs.View.{AreTold}
 use Rattle.query_admission.specs.Causes.{admission_causes, RefusesFor, NoneOf}
 use Rattle.query_admission.specs.Admission.{RefusesLine}
 use Rattle.query_admission.specs.Becomes.{AnswersLine}
-use Rattle.call_ends.specs.declared.status.Status.{Status}
-use Rattle.call_ends.specs.declared.status.Status.TheVariants.{Done, Partial}
+use Rattle.command_line.specs.declared.status.Status.{Status}
+use Rattle.command_line.specs.declared.status.Status.TheVariants.{Done, Partial}
 use Rattle.bundle_calls.specs.Bundled.{bundle_view, bundle_line}
 use Rattle.bundle_calls.specs.Reply.{RefusesBundle}
 

@@ -16,8 +16,8 @@ use Rattle.query_text.specs.Shape.{algorithm_word}
 use Rattle.query_text.specs.Costs.{costs_in_force}
 use Rattle.query_core.specs.declared.ready.Ready.{Ready}
 use Rattle.query_core.specs.Ready.{IsReady}
-use Rattle.call_ends.specs.declared.status.Status.{Status}
-use Rattle.call_ends.specs.declared.status.Status.TheVariants.{Done}
+use Rattle.command_line.specs.declared.status.Status.{Status}
+use Rattle.command_line.specs.declared.status.Status.TheVariants.{Done}
 use Rattle.bundle_calls.specs.declared.figures.Figures.{Figures}
 use Rattle.bundle_calls.specs.declared.figures.Compared.{Compared as FourFigures}
 use Rattle.bundle_calls.specs.declared.comparing.Comparison.{Comparison}

@@ -1,6 +1,6 @@
 -- Grades by object.
 use Rattle.std.specs.Prelude.{◌≡◌, ℕ, List, Option, Some, None}
-use Rattle.object_map.specs.Values.{Values, value_of}
+use Rattle.containers.specs.Values.{Values, value_of}
 use Rattle.ranked_list.specs.declared.row.Row.{Row}
 use Rattle.topk_theory.specs.Bounds.{grade_among}
 

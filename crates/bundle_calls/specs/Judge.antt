@@ -1,12 +1,12 @@
 -- What is replied to an input that is judged.
 use Rattle.std.specs.Prelude.{◌≡◌, ℕ, List}
-use Rattle.line_text.specs.Lines.{lines}
+use Rattle.topk_base.specs.Lines.{lines}
 use Rattle.cert_judge.specs.declared.judgement.Judgement.{Judgement}
 use Rattle.cert_judge.specs.declared.judgement.Judgement.TheVariants.{BadLine, Inconsistent, WildGuess, WrongSize, UnseenAnswer, Figure, Fixes, Beaten}
 use Rattle.cert_judge.specs.Judging.{Tells}
 use Rattle.cert_judge.specs.Text.{told_text}
-use Rattle.call_ends.specs.declared.status.Status.{Status}
-use Rattle.call_ends.specs.declared.status.Status.TheVariants.{Done, Partial}
+use Rattle.command_line.specs.declared.status.Status.{Status}
+use Rattle.command_line.specs.declared.status.Status.TheVariants.{Done, Partial}
 
 -- the status of what is told: done exactly where the answer is fixed
 abbrev pub told_status : Judgement → Status

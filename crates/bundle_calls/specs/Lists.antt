@@ -1,10 +1,10 @@
 -- What is replied to lists that a caller has in memory, and a query over them.
 use Rattle.std.specs.Prelude.{◌↔◌, ℕ, List, All}
-use Rattle.line_text.specs.Lines.{unlines, IsPlainLine}
+use Rattle.topk_base.specs.Lines.{unlines, IsPlainLine}
 use Rattle.bundle_text.specs.declared.given.GivenList.{GivenList}
 use Rattle.bundle_text.specs.Bundle.{bundle_lines}
 use Rattle.bundle_text.specs.Given.{content_given}
-use Rattle.call_ends.specs.declared.status.Status.{Status}
+use Rattle.command_line.specs.declared.status.Status.{Status}
 use Rattle.bundle_calls.specs.Reply.{RepliesToLines, Replies}
 
 -- the lines that lists and a query print as: those of a bundle that says so

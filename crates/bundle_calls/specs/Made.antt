@@ -1,6 +1,6 @@
 -- What is written of a made table.
 use Rattle.std.specs.Prelude.{ℕ, List}
-use Rattle.line_text.specs.Lines.{unlines}
+use Rattle.topk_base.specs.Lines.{unlines}
 use Rattle.bundle_text.specs.Bundle.{sections}
 use Rattle.made_inputs.specs.Made.{made_table}
 use Rattle.bundle_text.specs.Numbered.{list_names}

@@ -1,17 +1,17 @@
 -- Replies as the code keeps them.
 use Rattle.std.specs.Prelude.{◌≡◌, ◌⊎◌, ℕ, List, Some}
 use Rattle.std.specs.Io.KnownBytes.{Keeps}
-use Rattle.line_text.specs.Lines.{lines}
+use Rattle.topk_base.specs.Lines.{lines}
 use Rattle.bundle_text.specs.Bundle.{Content, Spells, IsFirstFault}
 use Rattle.cert_text.specs.declared.outcome.Outcome.{Outcome}
 use Rattle.cert_text.specs.Outcome.{IsOutcome, outcome_text}
 use Rattle.query_admission.specs.declared.line_outcome.LineOutcome.{LineOutcome}
 use Rattle.query_core.specs.declared.ready.Ready.{Ready}
 use Rattle.query_admission.specs.Becomes.{Becomes}
-use Rattle.call_ends.specs.Calls.{Output}
-use Rattle.call_ends.specs.Ends.{Replying, Says}
-use Rattle.call_ends.specs.declared.status.Status.{Status}
-use Rattle.call_ends.specs.declared.status.Status.TheVariants.{BadInput, Memory}
+use Rattle.command_line.specs.Calls.{Output}
+use Rattle.command_line.specs.Ends.{Replying, Says}
+use Rattle.command_line.specs.declared.status.Status.{Status}
+use Rattle.command_line.specs.declared.status.Status.TheVariants.{BadInput, Memory}
 use Rattle.bundle_calls.specs.declared.replies.Reply.{Reply}
 use Rattle.bundle_calls.specs.declared.replies.Reply.TheVariants.{NoBundle, Line}
 use Rattle.bundle_calls.specs.Bundled.{bundle_line}

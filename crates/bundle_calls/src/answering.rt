@@ -2,19 +2,19 @@
 
 ghost use Rattle.std.specs.Prelude.{◌≡◌, ◌≤◌, ℕ, List};
 ghost use Rattle.cert_text.specs.Outcome.{IsOutcome, outcome_text};
-ghost use Rattle.call_ends.specs.Shelves.{Shelf};
-ghost use Rattle.call_ends.specs.Calls.{input_as, output_as, outside_of, call_at};
-ghost use Rattle.call_ends.specs.Ends.{EndsReading, Says};
+ghost use Rattle.command_line.specs.Shelves.{Shelf};
+ghost use Rattle.command_line.specs.Calls.{input_as, output_as, outside_of, call_at};
+ghost use Rattle.command_line.specs.Ends.{EndsReading, Says};
 ghost use Rattle.bundle_calls.specs.Reply.{Replies, bundle_refused_text, outcome_status};
 ghost use Rattle.bundle_calls.specs.Outcomes.{reply_text, reply_status, IsWritable, SaysReply};
 
 use super::replies::{Reply, let_go, reply_to};
-use call_ends::{Status, ended};
 use cert_text::{Outcome, write_outcome};
-use limits::MAX_INPUT;
+use command_line::{Status, ended};
 use query_admission::LineOutcome;
 use std::alloc::Global;
 use tk_io::{Intake, Put, ReadError, Sink, Writer, read_text};
+use topk_base::MAX_INPUT;
 
 /// Reads a bundle from the input, answers its query over the lists that the query names, and writes the certificate of the answer or the
 /// line of a refusal: `refused bundle LINE` where the input is no bundle, else the first refusal that holds of the query line, which is

@@ -7,10 +7,10 @@ ghost use Rattle.bundle_calls.specs.Bundled.{lists_at};
 
 use super::told::ToldList;
 use bundle_text::Bundle;
-use limits::Memory;
 use query_admission::{Listed, Lists};
 use std::alloc::Global;
 use std::marker::Model;
+use topk_base::Memory;
 
 /// The lists of a bundle by name: all are told, all offer random access and can be read in order, and all are at version 0. The
 /// number of a list's source is its place in the bundle. Contracts see the bundle's content.

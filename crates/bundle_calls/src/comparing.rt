@@ -4,9 +4,9 @@ ghost use Rattle.std.specs.Prelude.{◌≡◌, ◌≤◌, ℕ, List, IfOk};
 ghost use Rattle.bundle_text.specs.Bundle.{content, IsBundle};
 ghost use Rattle.tk_io.specs.Pieces.{Puts};
 ghost use Rattle.query_admission.specs.Admission.{IsAdmitted};
-ghost use Rattle.call_ends.specs.Shelves.{Shelf};
-ghost use Rattle.call_ends.specs.Calls.{input_as, output_as, outside_of, call_at};
-ghost use Rattle.call_ends.specs.Ends.{EndsReading, Says};
+ghost use Rattle.command_line.specs.Shelves.{Shelf};
+ghost use Rattle.command_line.specs.Calls.{input_as, output_as, outside_of, call_at};
+ghost use Rattle.command_line.specs.Ends.{EndsReading, Says};
 ghost use Rattle.bundle_calls.specs.Bundled.{bundle_line, lists_at};
 ghost use Rattle.bundle_calls.specs.Outcomes.{SaysReply};
 ghost use Rattle.bundle_calls.specs.Compare.{Compares, ComparesBundle, ComparedAreAnswered};
@@ -17,14 +17,14 @@ use super::bundled::{Bundled, told_lists};
 use super::figures::{Compared, Figures, compare_all};
 use super::replies::{QUERY_LINE, Reply, let_go};
 use bundle_text::{Bundle, BundleFault, read_bundle};
-use call_ends::{Status, ended};
 use cert_text::{Outcome, Refusal, Versions};
-use limits::{MAX_INPUT, Memory};
+use command_line::{Status, ended};
 use query_admission::{Admitted, LineOutcome, admit};
 use query_core::Ready;
 use query_text::{Algorithm, Query};
 use std::alloc::Global;
 use tk_io::{Intake, Put, ReadError, Sink, Writer, read_text};
+use topk_base::{MAX_INPUT, Memory};
 
 /// What is told of an input.
 #[derive(Drop)]

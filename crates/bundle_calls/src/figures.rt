@@ -10,10 +10,10 @@ use super::drive::answer_over;
 use super::told::ToldList;
 use access_log::Transcript;
 use cert_text::depth_of;
-use limits::Memory;
 use query_core::{DriveFault, Ready};
 use query_text::{Algorithm, Query};
 use std::alloc::Global;
+use topk_base::Memory;
 
 /// What an algorithm reads of lists: how deep, how many accesses of each kind, and what these cost.
 #[derive(Clone, Copy)]

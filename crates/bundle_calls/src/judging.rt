@@ -1,17 +1,17 @@
 //! The command `judge`: a certificate and what is told of it.
 
 ghost use Rattle.std.specs.Prelude.{◌≡◌, ◌≤◌, ◌<◌, ◌^◌, ℕ, List, length};
-ghost use Rattle.call_ends.specs.Shelves.{Shelf};
-ghost use Rattle.call_ends.specs.Calls.{input_as, output_as, outside_of, call_at};
-ghost use Rattle.call_ends.specs.Ends.{EndsReading};
+ghost use Rattle.command_line.specs.Shelves.{Shelf};
+ghost use Rattle.command_line.specs.Calls.{input_as, output_as, outside_of, call_at};
+ghost use Rattle.command_line.specs.Ends.{EndsReading};
 ghost use Rattle.bundle_calls.specs.Judge.{JudgeReplies, told_status};
 ghost use Rattle.bundle_calls.specs.Outcomes.{SaysReply};
 
-use call_ends::{Status, ended};
 use cert_judge::{Judgement, judge_text, write_told};
-use limits::MAX_INPUT;
+use command_line::{Status, ended};
 use std::alloc::Global;
 use tk_io::{Intake, ReadError, Sink, read_text};
+use topk_base::MAX_INPUT;
 
 /// Reads a certificate from the input, and writes what is told of it: `fixes` where its accesses fix its answer, the table by which the
 /// answer is beaten where they don't, or why it isn't judged.

@@ -1,14 +1,14 @@
 //! The command `one` over lists that a caller has in memory.
 
 ghost use Rattle.std.specs.Prelude.{◌≤◌};
-ghost use Rattle.call_ends.specs.Calls.{output_as};
+ghost use Rattle.command_line.specs.Calls.{output_as};
 ghost use Rattle.bundle_calls.specs.Lists.{RepliesToLists, ListsAreRepliedToAsPrinted};
 ghost use Rattle.bundle_calls.specs.Outcomes.{SaysSome};
 
 use super::answering::write_reply;
 use super::replies::{let_go, reply_to_lists};
 use bundle_text::GivenList;
-use call_ends::Status;
+use command_line::Status;
 use std::alloc::Global;
 use tk_io::Sink;
 

@@ -1,13 +1,13 @@
 //! The command `make`: a made table.
 
 ghost use Rattle.std.specs.Prelude.{◌≤◌, ℕ, List};
-ghost use Rattle.call_ends.specs.Shelves.{Shelf};
-ghost use Rattle.call_ends.specs.Calls.{Input, output_as, outside_of, call_at};
-ghost use Rattle.call_ends.specs.Ends.{EndsWriting};
+ghost use Rattle.command_line.specs.Shelves.{Shelf};
+ghost use Rattle.command_line.specs.Calls.{Input, output_as, outside_of, call_at};
+ghost use Rattle.command_line.specs.Ends.{EndsWriting};
 ghost use Rattle.bundle_calls.specs.Made.{made_text};
 
 use bundle_text::write_table;
-use call_ends::{Status, ended};
+use command_line::{Status, ended};
 use made_inputs::make_table;
 use std::alloc::Global;
 use tk_io::Sink;

@@ -11,10 +11,10 @@ use super::bundled::{Bundled, told_lists};
 use super::drive::answer_over;
 use bundle_text::{Bundle, BundleFault, GivenList, gather_bundle, read_bundle};
 use cert_text::{Outcome, Refusal, Versions};
-use limits::Memory;
 use query_admission::{Admitted, LineOutcome, admit};
 use query_core::{DriveFault, Ready};
 use std::alloc::Global;
+use topk_base::Memory;
 
 /// What is replied to an input.
 #[derive(Drop)]

@@ -1,10 +1,10 @@
 //! A list that is told, as a query reads it.
 
 ghost use Rattle.std.specs.Prelude.{◌≡◌, ◌-◌, ◌==◌, ℕ, slice_get, None, IfOk, OnOk, if◌then◌else◌};
-ghost use Rattle.object_map.specs.Values.{value_of};
+ghost use Rattle.containers.specs.Values.{value_of};
 ghost use Rattle.topk_theory.specs.Bounds.{grade_among};
 
-use object_map::{Memory, ObjectMap};
+use containers::{Memory, ObjectMap};
 use ranked_list::{MemList, Row};
 use std::alloc::Global;
 use std::marker::Model;

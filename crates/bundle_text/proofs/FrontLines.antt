@@ -3,10 +3,10 @@ use Rattle.std.proofs.Common.{◌≡◌, ◌≢◌, ◌<◌, ◌≤◌, ◌^◌,
 use Rattle.std.specs.List.{All}
 use Rattle.std.specs.Fmt.{decimal}
 use Rattle.std.proofs.lemmas.List.Elements.{All-append, All-cons, All-nil, All-weaker}
-use Rattle.line_text.specs.Lines.{lines, unlines, IsPlainLine}
-use Rattle.line_text.specs.Numbers.{BeginsWithNumber}
-use Rattle.line_text.proofs.LineLaws.{lines-unlines-append, plain_from_bytes}
-use Rattle.line_text.proofs.NumberLaws.{decimal-up_to, decimal_bytes, up_to-some}
+use Rattle.topk_base.specs.Lines.{lines, unlines, IsPlainLine}
+use Rattle.topk_base.specs.Numbers.{BeginsWithNumber}
+use Rattle.topk_base.proofs.LineLaws.{lines-unlines-append, plain_from_bytes}
+use Rattle.topk_base.proofs.NumberLaws.{decimal-up_to, decimal_bytes, up_to-some}
 use Rattle.ranked_list.specs.declared.row.Row.{Row}
 use Rattle.bundle_text.specs.Bundle.{row_line}
 use Rattle.bundle_text.specs.Reading.{row_part}

@@ -3,7 +3,7 @@ use Rattle.std.proofs.Common.{◌≡◌, ◌≢◌, ◌<◌, ◌≤◌, ◌+◌,
 use Rattle.std.specs.List.{All}
 use Rattle.std.proofs.lemmas.List.{take_all, take-append-le, length_push}
 use Rattle.std.proofs.lemmas.List.Elements.{All-push}
-use Rattle.line_text.specs.Names.{is_name}
+use Rattle.topk_base.specs.Names.{is_name}
 use Rattle.bundle_text.specs.declared.given.GivenList.{GivenList}
 use Rattle.bundle_text.specs.declared.reader.Reader.{Reader}
 use Rattle.bundle_text.specs.declared.bundle.Bundle.{Bundle}

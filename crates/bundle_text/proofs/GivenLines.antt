@@ -4,10 +4,10 @@ use Rattle.std.specs.Prelude.{codes}
 use Rattle.std.specs.List.{All}
 use Rattle.std.specs.Fmt.{decimal, digits, digits_onto, digit_glyph}
 use Rattle.std.proofs.lemmas.List.Elements.{All-nil, All-cons, All-append}
-use Rattle.line_text.specs.Cuts.{cut_at, rest_after}
-use Rattle.line_text.specs.Names.{is_name}
-use Rattle.line_text.specs.Numbers.{number_up_to}
-use Rattle.line_text.proofs.CutLaws.{rest_after-append}
+use Rattle.topk_base.specs.Cuts.{cut_at, rest_after}
+use Rattle.topk_base.specs.Names.{is_name}
+use Rattle.topk_base.specs.Numbers.{number_up_to}
+use Rattle.topk_base.proofs.CutLaws.{rest_after-append}
 use Rattle.ranked_list.specs.declared.row.Row.{Row}
 use Rattle.bundle_text.specs.declared.given.GivenList.{GivenList}
 use Rattle.bundle_text.specs.Bundle.{list_line, row_line, section, sections}

@@ -5,11 +5,11 @@ use Rattle.std.specs.List.{All}
 use Rattle.std.specs.Fmt.{decimal}
 use Rattle.std.proofs.lemmas.Fmt.{decimal_nonempty}
 use Rattle.std.proofs.lemmas.List.Elements.{All-head, All-weaker}
-use Rattle.line_text.specs.Cuts.{cut_at, rest_after}
-use Rattle.line_text.specs.Numbers.{number_up_to}
-use Rattle.line_text.specs.Names.{is_name}
-use Rattle.line_text.proofs.CutLaws.{rest_after-append, rest_after-some, cut_at-append, cut_at-some}
-use Rattle.line_text.proofs.NumberLaws.{up_to-decimal, up_to-some, decimal-up_to, decimal_bytes}
+use Rattle.topk_base.specs.Cuts.{cut_at, rest_after}
+use Rattle.topk_base.specs.Numbers.{number_up_to}
+use Rattle.topk_base.specs.Names.{is_name}
+use Rattle.topk_base.proofs.CutLaws.{rest_after-append, rest_after-some, cut_at-append, cut_at-some}
+use Rattle.topk_base.proofs.NumberLaws.{up_to-decimal, up_to-some, decimal-up_to, decimal_bytes}
 use Rattle.ranked_list.specs.declared.row.Row.{Row}
 use Rattle.bundle_text.specs.Bundle.{list_line, row_line, query_line}
 use Rattle.bundle_text.specs.Reading.{Part, list_part, row_part, query_part, no_part, row_of_parts, row_part_of, query_part_or, list_part_or, part_of}

@@ -4,8 +4,8 @@ use Rattle.std.specs.List.{flat_map, zip}
 use Rattle.std.proofs.lemmas.List.{take_more, take_all, length-take-le}
 use Rattle.std.proofs.lemmas.List.FromFn.{map-range_with_len_more, length-map-range_with_len}
 use Rattle.std.proofs.lemmas.Grind.{flat_map-append}
-use Rattle.line_text.specs.Lines.{unlines}
-use Rattle.line_text.proofs.LineLaws.{unlines-append}
+use Rattle.topk_base.specs.Lines.{unlines}
+use Rattle.topk_base.proofs.LineLaws.{unlines-append}
 use Rattle.ranked_list.specs.declared.row.Row.{Row}
 use Rattle.bundle_text.specs.Bundle.{list_line, row_line, section, sections}
 use Rattle.bundle_text.proofs.FrontLaws.{zip-push}

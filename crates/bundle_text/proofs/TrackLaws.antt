@@ -6,7 +6,7 @@ use Rattle.std.specs.Set.{is_member}
 use Rattle.std.specs.Global.{Vec}
 use Rattle.std.proofs.lemmas.Bool.{false_from_ne_true, false≢true}
 use Rattle.std.proofs.lemmas.List.{map-append}
-use Rattle.object_map.specs.Values.{value_of}
+use Rattle.containers.specs.Values.{value_of}
 use Rattle.ranked_list.specs.declared.row.Row.{Row}
 use Rattle.ranked_list.specs.Table.{objects}
 use Rattle.ranked_list.specs.Rows.{last_row, in_order, TellsObjects}

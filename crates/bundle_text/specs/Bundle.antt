@@ -4,13 +4,13 @@ use Rattle.std.specs.List.{flat_map, zip}
 use Rattle.std.specs.Fmt.{decimal}
 use Rattle.std.specs.declared.result.Result.{Result}
 use Rattle.std.specs.declared.result.Result.TheVariants.{Ok, Err}
-use Rattle.line_text.specs.Names.{IsName}
+use Rattle.topk_base.specs.Names.{IsName}
 use Rattle.ranked_list.specs.declared.row.Row.{Row}
 use Rattle.bundle_text.specs.declared.bundle.Bundle.{Bundle}
 use Rattle.bundle_text.specs.declared.bundle.BundleFault.{BundleFault}
 use Rattle.bundle_text.specs.declared.bundle.BundleFault.TheVariants.{BadBundle, Memory}
 use Rattle.ranked_list.specs.Table.{IsTable}
-use Rattle.limits.specs.declared.TheConstants.{MAX_BUNDLE_LISTS, MAX_OBJECTS}
+use Rattle.topk_base.specs.declared.TheConstants.{MAX_BUNDLE_LISTS, MAX_OBJECTS}
 
 -- what a bundle says: the names of its lists, the lists, and the text of its query
 pub record Content : Type 0 where

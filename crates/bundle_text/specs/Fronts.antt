@@ -1,6 +1,6 @@
 -- How a text begins.
 use Rattle.std.specs.Prelude.{◌≡◌, ◌<◌, ℕ, List, ◌∷◌, length}
-use Rattle.line_text.specs.Lines.{lines}
+use Rattle.topk_base.specs.Lines.{lines}
 use Rattle.bundle_text.specs.Reading.{Part, part_of}
 
 -- the first line of the text is this part of a bundle, and the text goes on with the rest

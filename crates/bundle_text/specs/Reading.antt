@@ -7,16 +7,16 @@ use Rattle.std.specs.declared.option.Option.{Option}
 use Rattle.std.specs.declared.option.Option.TheVariants.{None, Some}
 use Rattle.std.specs.declared.result.Result.{Result}
 use Rattle.std.specs.declared.result.Result.TheVariants.{Ok, Err}
-use Rattle.line_text.specs.Cuts.{cut_at, rest_after}
-use Rattle.line_text.specs.Numbers.{number_up_to}
-use Rattle.line_text.specs.Names.{is_name}
+use Rattle.topk_base.specs.Cuts.{cut_at, rest_after}
+use Rattle.topk_base.specs.Numbers.{number_up_to}
+use Rattle.topk_base.specs.Names.{is_name}
 use Rattle.ranked_list.specs.declared.row.Row.{Row}
 use Rattle.bundle_text.specs.declared.line.Line.{Line}
 use Rattle.bundle_text.specs.declared.line.Line.TheVariants.{Heading, Entry, Query, Other}
 use Rattle.ranked_list.specs.Table.{objects}
 use Rattle.ranked_list.specs.Rows.{last_row, in_order}
 use Rattle.bundle_text.specs.Bundle.{Content}
-use Rattle.limits.specs.declared.TheConstants.{MAX_BUNDLE_LISTS, MAX_OBJECTS}
+use Rattle.topk_base.specs.declared.TheConstants.{MAX_BUNDLE_LISTS, MAX_OBJECTS}
 
 -- what one line may be: the beginning of a list, a row, the query, or none of these
 pub data Part : Type 0 where

@@ -1,6 +1,6 @@
 -- What the crate's reader of bundles keeps beside the front that it has read.
 use Rattle.std.specs.Prelude.{◌≡◌, ◌==◌, ◌≤◌, ℕ, Bool, false, Option, None, Some, List, [], ◌∷◌, map, length, is_some, IfSome}
-use Rattle.object_map.specs.Values.{value_of}
+use Rattle.containers.specs.Values.{value_of}
 use Rattle.std.specs.declared.result.Result.{Result}
 use Rattle.std.specs.declared.result.Result.TheVariants.{Ok, Err}
 use Rattle.ranked_list.specs.declared.row.Row.{Row}

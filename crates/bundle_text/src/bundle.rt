@@ -2,7 +2,7 @@
 
 ghost use Rattle.std.specs.Prelude.{◌≡◌, IfOk, IfErr};
 ghost use Rattle.std.specs.Prelude.{◌+◌, ◌<◌, ◌^◌, Err};
-ghost use Rattle.line_text.specs.Lines.{lines};
+ghost use Rattle.topk_base.specs.Lines.{lines};
 ghost use Rattle.bundle_text.specs.Bundle.{Content, content, Spells, IsReadAs, IsCause};
 ghost use Rattle.bundle_text.specs.Reading.{read_on, read_all, read_part, query_part};
 ghost use Rattle.bundle_text.specs.Tracking.{front_of, IsTracked, GivesBundle};
@@ -10,10 +10,10 @@ ghost use Rattle.bundle_text.specs.Tracking.{front_of, IsTracked, GivesBundle};
 use super::line::{Line, line_of};
 use super::reader::Reader;
 use super::row_front::next_line;
-use line_text::first_line;
 use ranked_list::MemList;
 use std::alloc::Global;
 use thiserror::Error;
+use topk_base::first_line;
 
 /// Lists under their names, with the text of a query over them.
 #[derive(Drop)]

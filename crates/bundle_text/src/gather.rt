@@ -11,9 +11,9 @@ use super::bundle::{Bundle, BundleFault};
 use super::given::{GivenList, GivenRow};
 use super::line::Line;
 use super::reader::Reader;
-use line_text::is_name;
 use ranked_list::Row;
 use std::alloc::Global;
+use topk_base::is_name;
 
 /// Takes a row in, whose line has this number, and gives the number of the next line.
 fn add_row(

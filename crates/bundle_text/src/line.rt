@@ -1,12 +1,12 @@
 //! What one line of a bundle is.
 
 ghost use Rattle.std.specs.Prelude.{◌≡◌};
-ghost use Rattle.line_text.specs.Numbers.{number_up_to};
-ghost use Rattle.line_text.specs.Cuts.{cut_at};
+ghost use Rattle.topk_base.specs.Numbers.{number_up_to};
+ghost use Rattle.topk_base.specs.Cuts.{cut_at};
 ghost use Rattle.bundle_text.specs.Reading.{part_of, part_read, row_part_of};
 
-use line_text::{cut_at, is_name, number_up_to, rest_after};
 use ranked_list::Row;
+use topk_base::{cut_at, is_name, number_up_to, rest_after};
 
 /// A line of a bundle.
 #[derive(Clone, Copy)]

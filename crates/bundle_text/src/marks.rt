@@ -1,9 +1,9 @@
 //! Objects with the numbers of lists.
 
 ghost use Rattle.std.specs.Prelude.{◌≡◌, ◌==◌, ℕ, Some, IfOk, OnOk, if◌then◌else◌};
-ghost use Rattle.object_map.specs.Values.{value_of};
+ghost use Rattle.containers.specs.Values.{value_of};
 
-use object_map::ObjectMap;
+use containers::ObjectMap;
 use ranked_list::Memory;
 
 /// Gives an object this number, and says which it had before.

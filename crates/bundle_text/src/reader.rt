@@ -11,11 +11,11 @@ ghost use Rattle.bundle_text.specs.Bundle.{content};
 use super::bundle::{Bundle, BundleFault};
 use super::line::Line;
 use super::marks::mark;
-use limits::{MAX_BUNDLE_LISTS, MAX_OBJECTS};
-use object_map::ObjectMap;
+use containers::ObjectMap;
 use ranked_list::{MemList, Memory, Row, check_next};
 use std::alloc::Global;
 use std::mem::replace;
+use topk_base::{MAX_BUNDLE_LISTS, MAX_OBJECTS};
 
 /// The lists of a bundle so far, of which the last is open.
 #[derive(Drop)]

@@ -5,8 +5,8 @@ ghost use Rattle.bundle_text.specs.Reading.{part_read, row_part};
 ghost use Rattle.bundle_text.specs.Fronts.{BeginsWithPart};
 
 use super::line::{Line, line_of};
-use line_text::{first_line, number_front};
 use ranked_list::Row;
+use topk_base::{first_line, number_front};
 
 /// The text after a byte at its front, or None where another byte is there.
 fn after(byte: u8, text: &[u8]) -> Option<&[u8]>

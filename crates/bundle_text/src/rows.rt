@@ -1,7 +1,7 @@
 //! Rows as text.
 
 ghost use Rattle.std.specs.Prelude.{◌++◌, ◌∷◌, [], map};
-ghost use Rattle.line_text.specs.Lines.{unlines};
+ghost use Rattle.topk_base.specs.Lines.{unlines};
 ghost use Rattle.bundle_text.specs.Bundle.{row_line};
 ghost use Rattle.tk_io.specs.Pieces.{Puts};
 

@@ -2,7 +2,7 @@
 
 ghost use Rattle.std.specs.Prelude.{◌++◌, ◌∷◌, [], length, OnOk, OnErr};
 ghost use Rattle.std.specs.Io.KnownBytes.{Appends};
-ghost use Rattle.line_text.specs.Lines.{unlines};
+ghost use Rattle.topk_base.specs.Lines.{unlines};
 ghost use Rattle.bundle_text.specs.Bundle.{list_line, section, sections};
 ghost use Rattle.bundle_text.specs.Numbered.{list_name, list_names};
 ghost use Rattle.tk_io.specs.Faults.{HasCause};

@@ -18,7 +18,7 @@ use Rattle.topk_theory.specs.Combined.{MayBeAsked, IsChoice, choice}
 use Rattle.topk_theory.proofs.AgreementLists.{slice_get_contains}
 use Rattle.topk_theory.proofs.CombinedChoice.{choice_law, one_choice}
 use Rattle.access_log.proofs.RecordKept.{placed, not_placed}
-use Rattle.indexed_heap.specs.Ranks.{rank_at, IsGreatest}
+use Rattle.containers.specs.Ranks.{rank_at, IsGreatest}
 use Rattle.ranked_list.proofs.OptionLaws.{option_cases}
 use Rattle.ca_core.specs.declared.kept_high.KeptHigh.{KeptHigh}
 use Rattle.ca_core.specs.Open.{IsOpen, AreOpen}

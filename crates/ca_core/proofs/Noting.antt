@@ -18,7 +18,7 @@ use Rattle.monotone_fn.specs.Value.{value, IsMonotone}
 use Rattle.monotone_fn.proofs.Laws.{value-monotone}
 use Rattle.access_log.specs.Log.{Log, IsConsistent}
 use Rattle.access_log.proofs.RecordKept.{placed}
-use Rattle.indexed_heap.specs.Ranks.{rank_at}
+use Rattle.containers.specs.Ranks.{rank_at}
 use Rattle.nra_core.proofs.Renewed.{high_falls}
 use Rattle.ca_core.specs.declared.kept_high.KeptHigh.{KeptHigh}
 use Rattle.ca_core.specs.declared.open_highs.OpenHighs.{OpenHighs}

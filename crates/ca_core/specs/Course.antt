@@ -14,7 +14,7 @@ use Rattle.machine_base.specs.Asking.{next_unknown, ask_from}
 use Rattle.machine_base.specs.declared.base.Base.{Base}
 use Rattle.ca_core.specs.declared.stage.Stage.{Stage}
 use Rattle.ca_core.specs.declared.stage.Stage.TheVariants as stages
-use Rattle.limits.specs.declared.TheConstants.{MAX_OBJECTS}
+use Rattle.topk_base.specs.declared.TheConstants.{MAX_OBJECTS}
 
 -- what is next
 abbrev pub need_at : Stage → Need

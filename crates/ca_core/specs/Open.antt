@@ -1,6 +1,6 @@
 -- What is kept of the seen objects that have an unknown grade.
 use Rattle.std.specs.Prelude.{◌≡◌, ◌<◌, ◌≤◌, ℕ, Option, Some, List, [], ◌∷◌, ◌++◌, length, slice_get, Contains}
-use Rattle.indexed_heap.specs.Ranks.{rank_at}
+use Rattle.containers.specs.Ranks.{rank_at}
 use Rattle.topk_theory.specs.declared.access.Access.{Access}
 use Rattle.topk_theory.specs.Transcript.{object_of, seen_objects}
 use Rattle.topk_theory.specs.Bounds.{high}

@@ -9,7 +9,7 @@ ghost use Rattle.topk_theory.specs.Threshold.{item_objects};
 ghost use Rattle.ca_core.specs.Course.{valued};
 
 use access_log::{Item, Transcript};
-use best_k::put_in_order;
+use machine_base::put_in_order;
 use monotone_fn::Expr;
 
 /// Gives each item, all grades of whose object are known, its aggregate as both bounds.

@@ -9,12 +9,12 @@ use super::foreseen::left;
 use super::late_seen::LateSeen;
 use super::stage::Stage;
 use access_log::{Access, Item, Items, Transcript};
-use limits::MAX_OBJECTS;
 use machine_base::{Answer, Base, CoreFault, Memory, Need};
 use monotone_fn::{Costs, Expr};
 use ranked_list::Row;
 use std::alloc::Global;
 use std::marker::Model;
+use topk_base::MAX_OBJECTS;
 
 /// The combined algorithm on one query. It says which access it needs next, and is fed what that access gave.
 /// Contracts see it as a `MachineState`.

@@ -8,10 +8,10 @@ ghost use Rattle.machine_base.specs.Base.{Holds};
 ghost use Rattle.ca_core.specs.Seen.{AreRenewed, KeepsSeen, WasRenewed};
 
 use super::open_highs::OpenHighs;
-use limits::MAX_OBJECTS;
 use machine_base::{Base, Memory};
 use nra_core::LateBounds;
 use std::alloc::Global;
+use topk_base::MAX_OBJECTS;
 
 /// The bounds that decide the stop, and the highs that decide a random phase, both renewed late.
 #[derive(Drop)]

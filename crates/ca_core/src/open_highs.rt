@@ -9,11 +9,11 @@ ghost use Rattle.ca_core.specs.Open.{AreOpen, KeepsOpen, WasOpen};
 
 use super::kept_high::KeptHigh;
 use access_log::Transcript;
-use indexed_heap::IndexedHeap;
-use limits::{MAX_OBJECTS, Memory};
+use containers::IndexedHeap;
 use machine_base::next_unknown;
 use monotone_fn::Expr;
 use std::alloc::Global;
+use topk_base::{MAX_OBJECTS, Memory};
 
 /// The seen objects that have an unknown grade, by their places in the order of first sight, each with a kept high
 /// that is at least its present one.

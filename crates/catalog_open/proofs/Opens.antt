@@ -13,7 +13,7 @@ use Rattle.catalog_open.specs.declared.opened.Opening.TheVariants.{Closed, Open}
 use Rattle.catalog_open.specs.Entries.{no_entry, entry_at, opening_at, entry_told}
 use Rattle.catalog_open.specs.Openings.{Counted, MovesAt, TroubleAt, one_at, standing, no_sources, Sources, run_count, IsToldAs, IsAtVersion, IsSource, IsOpening, IsNumbered, AreOpened, IsKnownAt}
 use Rattle.catalog_open.proofs.Moving.{moves_nothing, trouble_on}
-use Rattle.limits.specs.declared.TheConstants.{MAX_OBJECTS}
+use Rattle.topk_base.specs.declared.TheConstants.{MAX_OBJECTS}
 
 abbrev sources_by : List (Option (List Row)) → List ℕ → List ℕ → List ℕ → Sources
 sources_by told held places counts = record { told = told; versions = held; places = places; counts = counts }

@@ -1,6 +1,6 @@
 -- Sources that were taken of a shelf, before they are open.
 use Rattle.std.specs.Prelude.{◌≡◌, ◌≤◌, ◌+◌, ℕ, Bool, true, false, List, [], ◌∷◌, All, Option, None, Some, Result, Ok, Err, IfSome, length, map, slice_get}
-use Rattle.limits.specs.declared.Memory.{Memory as WantOfMemory}
+use Rattle.topk_base.specs.declared.Memory.{Memory as WantOfMemory}
 use Rattle.tk_io.specs.Faults.{Rose}
 use Rattle.ranked_list.specs.declared.row.Row.{Row}
 use Rattle.source_api.specs.declared.counts.Counts.{Counts}

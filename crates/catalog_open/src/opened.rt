@@ -6,9 +6,9 @@ ghost use Rattle.catalog_open.specs.Slots.{HasRoom, IsBare};
 
 use super::Memory;
 use fetcher::Slot;
-use limits::MAX_OBJECTS;
 use source_api::Source;
 use std::alloc::Global;
+use topk_base::MAX_OBJECTS;
 
 /// What became of a source of the catalog.
 #[derive(Clone, Copy, Debug)]

@@ -8,11 +8,11 @@ ghost use Rattle.catalog_open.specs.Takings.{AreAsked, AreTaken, IsAsked, TakesO
 use super::Memory;
 use super::entries::place_of_entry;
 use catalog_text::Catalog;
-use limits::MAX_LISTS;
 use source_api::{FailKind, Shelf, Source, Trouble};
 use std::alloc::Global;
 use std::thread;
 use std::thread::Threads;
+use topk_base::MAX_LISTS;
 
 /// In how many threads at most sources are asked side by side: as many as the lists of a query, since each thread costs as much as
 /// reading some hundred rows.

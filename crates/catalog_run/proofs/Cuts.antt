@@ -12,7 +12,7 @@ use Rattle.query_admission.specs.View.{View}
 use Rattle.query_run.specs.declared.inquiry.Inquiry.{Inquiry}
 use Rattle.query_run.specs.Made.{IsOf}
 use Rattle.fetcher.specs.declared.slot.Slot.{Slot}
-use Rattle.limits.specs.declared.settings.Settings.{Settings}
+use Rattle.topk_base.specs.declared.settings.Settings.{Settings}
 use Rattle.batch_result.specs.Batches.{BatchRun, BatchState, IsBatch}
 use Rattle.batch_result.specs.Cut.{IsOfBegun, IsReadBy, IsCut, begun as begun_of}
 use Rattle.batch_run.proofs.RunLaws.{counts_same}

@@ -10,7 +10,7 @@ use Rattle.topk_theory.proofs.AgreementLists.{front_next}
 use Rattle.query_admission.specs.declared.line_outcome.LineOutcome.{LineOutcome}
 use Rattle.catalog_run.specs.Running.{is_answer, run_status, line_text, outcomes_text}
 use Rattle.catalog_run.specs.Texts.{AreTexts}
-use Rattle.call_ends.specs.declared.status.Status.TheVariants.{Done, Partial}
+use Rattle.command_line.specs.declared.status.Status.TheVariants.{Done, Partial}
 
 text_append : (number : ℕ) (xs ys : List LineOutcome) → outcomes_text number (xs ++ ys) ≡ outcomes_text number xs ++ outcomes_text (number + length xs) ys
 text_append number [] ys = let e : number ≡ number + 0 = omega arith in ap (λ n. outcomes_text n ys) e

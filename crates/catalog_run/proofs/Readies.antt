@@ -28,7 +28,7 @@ use Rattle.catalog_open.specs.Openings.{Counted, Sources, AreOpened, IsOpening, 
 use Rattle.catalog_open.specs.Admissions.{AreAdmitted}
 use Rattle.batch_result.specs.Numbered.{version_at}
 use Rattle.catalog_run.specs.Runs.{HasVersions, IsReadyOf}
-use Rattle.limits.specs.declared.TheConstants.{MAX_OBJECTS}
+use Rattle.topk_base.specs.declared.TheConstants.{MAX_OBJECTS}
 
 -- a source that a query names is there, and has as many objects
 abbrev pub HasCount : List ℕ → ℕ → ℕ → Type 0

@@ -16,10 +16,10 @@ use Rattle.catalog_open.proofs.Moving.{moves_none}
 use Rattle.catalog_run.specs.Runs.{AsksWantedAtMostOnce}
 use Rattle.catalog_run.proofs.Whole.{few_still}
 use Rattle.query_admission.specs.declared.line_outcome.LineOutcome.{LineOutcome}
-use Rattle.command_words.specs.declared.running.RunOptions.{RunOptions}
-use Rattle.limits.specs.declared.settings.Settings.{Settings}
-use Rattle.call_ends.specs.Calls.{Call, KeepsShelf, LeftAlone, WroteNothing, WroteWhole, input_limit}
-use Rattle.call_ends.specs.Shelves.{Shelf, AsksText, GivesText, TextFailed, TextRefused}
+use Rattle.command_line.specs.declared.running.RunOptions.{RunOptions}
+use Rattle.topk_base.specs.declared.settings.Settings.{Settings}
+use Rattle.command_line.specs.Calls.{Call, KeepsShelf, LeftAlone, WroteNothing, WroteWhole, input_limit}
+use Rattle.command_line.specs.Shelves.{Shelf, AsksText, GivesText, TextFailed, TextRefused}
 use Rattle.catalog_run.specs.Taking.{TakesSources}
 use Rattle.catalog_run.specs.Running.{catalog_refused_text, run_status}
 use Rattle.csv_records.specs.Records.{records_of}
@@ -27,10 +27,10 @@ use Rattle.catalog_text.specs.Judging.{Judges}
 use Rattle.catalog_text.specs.declared.catalog.CatalogFault.{CatalogFault}
 use Rattle.catalog_text.specs.declared.catalog.CatalogFault.TheVariants.{CatalogLine, SameName, Memory as NoMemory}
 use Rattle.catalog_run.specs.RunEnds.{CatalogRefused, CatalogStands, LinesLeft, LinesReplied, RunsOverCatalog, RunsOn, EndsRunning, from_shelf}
-use Rattle.call_ends.specs.Ends.{Says}
+use Rattle.command_line.specs.Ends.{Says}
 use Rattle.catalog_run.specs.Faults.{SaysFault, read_status, text_status}
-use Rattle.call_ends.specs.declared.status.Status.{Status}
-use Rattle.call_ends.specs.declared.status.Status.TheVariants.{Done, Partial, BadWords, BadCatalog, ReadFault, WriteFault, OpenFault, PortFault, Memory, LongInput, BadInput}
+use Rattle.command_line.specs.declared.status.Status.{Status}
+use Rattle.command_line.specs.declared.status.Status.TheVariants.{Done, Partial, BadWords, BadCatalog, ReadFault, WriteFault, OpenFault, PortFault, Memory, LongInput, BadInput}
 use Rattle.catalog_run.proofs.LineTexts.{is_run_status}
 
 -- a shelf of which nothing was asked

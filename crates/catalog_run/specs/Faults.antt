@@ -1,8 +1,8 @@
 -- How faults end a run of query lines: of the text that should be a catalog, of the shelf that should give it, of the input.
 use Rattle.std.specs.Prelude.{◌≡◌, codes}
 use Rattle.std.specs.Io.KnownBytes.{Keeps}
-use Rattle.call_ends.specs.declared.status.Status.{Status}
-use Rattle.call_ends.specs.declared.status.Status.TheVariants.{BadCatalog, Memory, LongInput, OpenFault, ReadFault}
+use Rattle.command_line.specs.declared.status.Status.{Status}
+use Rattle.command_line.specs.declared.status.Status.TheVariants.{BadCatalog, Memory, LongInput, OpenFault, ReadFault}
 use Rattle.catalog_text.specs.declared.catalog.CatalogFault.{CatalogFault}
 use Rattle.catalog_text.specs.declared.catalog.CatalogFault.TheVariants.{CatalogLine, SameName, Memory as NoMemory}
 use Rattle.source_api.specs.declared.source.Trouble.{Trouble}
@@ -10,8 +10,8 @@ use Rattle.source_api.specs.declared.source.Trouble.TheVariants.{Fail}
 use Rattle.source_api.specs.declared.source.FailKind.TheVariants as fails
 use Rattle.tk_io.specs.declared.whole.ReadError.{ReadError}
 use Rattle.tk_io.specs.declared.whole.ReadError.TheVariants as read
-use Rattle.call_ends.specs.Calls.{Output}
-use Rattle.call_ends.specs.Ends.{Says}
+use Rattle.command_line.specs.Calls.{Output}
+use Rattle.command_line.specs.Ends.{Says}
 use Rattle.catalog_run.specs.Running.{catalog_refused_text}
 
 -- how a call ends for a fault of a text that should be a catalog: the fault is said, or nothing for want of memory

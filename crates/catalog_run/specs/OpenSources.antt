@@ -2,7 +2,7 @@
 use Rattle.std.specs.Prelude.{List}
 use Rattle.source_api.specs.declared.counts.Counts.{Counts}
 use Rattle.query_core.specs.declared.ready.Ready.{Ready}
-use Rattle.limits.specs.declared.settings.Settings.{Settings}
+use Rattle.topk_base.specs.declared.settings.Settings.{Settings}
 use Rattle.batch_result.specs.Batches.{BatchRun}
 use Rattle.catalog_open.specs.Openings.{Sources}
 

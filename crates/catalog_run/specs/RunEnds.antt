@@ -1,18 +1,18 @@
 -- How a run of query lines over a catalog ends, by its status.
 use Rattle.std.specs.Prelude.{◌⊎◌, List, ℕ}
-use Rattle.line_text.specs.Lines.{lines}
+use Rattle.topk_base.specs.Lines.{lines}
 use Rattle.csv_records.specs.Records.{records_of}
 use Rattle.catalog_text.specs.Catalog.{Listed as Entry, IsCatalog}
-use Rattle.command_words.specs.declared.running.RunOptions.{RunOptions}
-use Rattle.limits.specs.declared.settings.Settings.{Settings}
-use Rattle.call_ends.specs.Calls.{Call, LeftAlone, KeepsShelf, ReadSome, ReadWhole, ReadFailed, ReadLong, WroteNothing, WroteWhole, WroteFront}
-use Rattle.call_ends.specs.Shelves.{Shelf, GivesText, TextFailed, TextRefused}
+use Rattle.command_line.specs.declared.running.RunOptions.{RunOptions}
+use Rattle.topk_base.specs.declared.settings.Settings.{Settings}
+use Rattle.command_line.specs.Calls.{Call, LeftAlone, KeepsShelf, ReadSome, ReadWhole, ReadFailed, ReadLong, WroteNothing, WroteWhole, WroteFront}
+use Rattle.command_line.specs.Shelves.{Shelf, GivesText, TextFailed, TextRefused}
 use Rattle.catalog_run.specs.Taking.{TakesSources}
 use Rattle.catalog_run.specs.Cut.{IsCutRun}
 use Rattle.catalog_run.specs.Running.{RefusesCatalog, RepliesToLines, lines_run}
-use Rattle.call_ends.specs.declared.status.Status.{Status}
-use Rattle.call_ends.specs.declared.status.Status.TheVariants.{Done, Partial, BadCatalog, LongInput, Memory}
-use Rattle.call_ends.specs.declared.status.Status.TheVariants.{ReadFault, WriteFault, OpenFault}
+use Rattle.command_line.specs.declared.status.Status.{Status}
+use Rattle.command_line.specs.declared.status.Status.TheVariants.{Done, Partial, BadCatalog, LongInput, Memory}
+use Rattle.command_line.specs.declared.status.Status.TheVariants.{ReadFault, WriteFault, OpenFault}
 
 -- the text is no catalog, and this is said; no source was taken, and the input wasn't read
 pub record CatalogRefused (text : List ℕ) (c : Call) (said : List ℕ) : Type 0 where

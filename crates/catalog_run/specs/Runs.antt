@@ -12,7 +12,7 @@ use Rattle.query_run.specs.declared.ended.Ended.{Ended}
 use Rattle.query_run.specs.declared.inquiry.Inquiry.{Inquiry}
 use Rattle.query_run.specs.Made.{IsOf, IsReadyFor}
 use Rattle.query_run.specs.Endings.{EndsAs, IsRight}
-use Rattle.limits.specs.declared.settings.Settings.{Settings}
+use Rattle.topk_base.specs.declared.settings.Settings.{Settings}
 use Rattle.batch_result.specs.Batches.{BatchState, IsBatch}
 use Rattle.batch_result.specs.Numbered.{version_at}
 use Rattle.catalog_text.specs.Catalog.{Listed as Entry}

@@ -4,7 +4,7 @@ use Rattle.catalog_text.specs.Catalog.{Listed as Entry}
 use Rattle.catalog_open.specs.Wanted.{IsWanted}
 use Rattle.catalog_open.specs.Openings.{Used, Moves, KeepsOthers}
 use Rattle.catalog_run.specs.Runs.{AsksWantedAtMostOnce}
-use Rattle.call_ends.specs.Shelves.{Shelf, TellsTheSame}
+use Rattle.command_line.specs.Shelves.{Shelf, TellsTheSame}
 
 -- sources of the lists that query lines name were asked of a shelf, each at most once, and all that it gave were put back; nothing was counted at the places of
 -- other lists

@@ -1,12 +1,12 @@
 //! The command `run`: query lines over the lists of a catalog.
 
 ghost use Rattle.std.specs.Prelude.{◌≡◌, ◌≤◌, ℕ, List, IfOk, map};
-ghost use Rattle.line_text.specs.Lines.{lines};
+ghost use Rattle.topk_base.specs.Lines.{lines};
 ghost use Rattle.source_api.specs.declared.ledger.PlaceCounts.{PlaceCounts};
 ghost use Rattle.source_api.specs.Places.{HasTextCause};
-ghost use Rattle.limits.specs.Ranges.{AreSettings};
-ghost use Rattle.call_ends.specs.Calls.{output_as, call_of};
-ghost use Rattle.call_ends.specs.Ends.{Says};
+ghost use Rattle.topk_base.specs.Ranges.{AreSettings};
+ghost use Rattle.command_line.specs.Calls.{output_as, call_of};
+ghost use Rattle.command_line.specs.Ends.{Says};
 ghost use Rattle.catalog_run.specs.RunEnds.{EndsRunning};
 ghost use Rattle.catalog_run.specs.Faults.{SaysFault, text_status, read_status};
 ghost use Rattle.catalog_run.specs.Running.{catalog_refused_text};
@@ -14,17 +14,15 @@ ghost use Rattle.catalog_run.specs.Running.{catalog_refused_text};
 use super::line_outcomes::write_outcomes;
 use super::lines::run_lines;
 use super::merging::let_go;
-use call_ends::{Status, ended};
 use catalog_open::Memory;
 use catalog_text::{Catalog, CatalogFault, read_catalog};
-use command_words::RunOptions;
-use limits::MAX_INPUT;
-use line_text::first_line;
+use command_line::{RunOptions, Status, ended};
 use source_api::{FailKind, Shelf, Trouble};
 use std::alloc::Global;
 use std::sync::Wait;
 use std::thread::Threads;
 use tk_io::{Intake, Put, ReadError, Sink, Writer, read_text};
+use topk_base::{MAX_INPUT, first_line};
 
 /// Answers the query lines that the input has, over the lists of the catalog that the options name, and writes what became of each line,
 /// in their order. The catalog's text is asked of the shelf first; only where it is a catalog is the input read, and the sources that its

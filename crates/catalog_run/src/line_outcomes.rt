@@ -2,13 +2,13 @@
 
 ghost use Rattle.std.specs.Prelude.{◌≡◌, ◌≤◌, All};
 ghost use Rattle.line_outcome.specs.LineOutcomes.{CanBeWritten};
-ghost use Rattle.call_ends.specs.Calls.{output_as};
-ghost use Rattle.call_ends.specs.Ends.{Says};
+ghost use Rattle.command_line.specs.Calls.{output_as};
+ghost use Rattle.command_line.specs.Ends.{Says};
 ghost use Rattle.catalog_run.specs.Running.{is_answer, run_status, outcomes_text};
 
 use super::texts::put_outcomes;
-use call_ends::{Status, ended};
 use cert_text::Outcome;
+use command_line::{Status, ended};
 use query_admission::LineOutcome;
 use std::alloc::Global;
 use std::thread::Threads;

@@ -4,7 +4,7 @@ ghost use Rattle.std.specs.Prelude.{◌≡◌, ◌≤◌, ◌<◌, [], ℕ, Bool
 ghost use Rattle.ranked_list.specs.declared.row.Row.{Row};
 ghost use Rattle.source_api.specs.declared.counts.Counts.{Counts};
 ghost use Rattle.source_api.specs.Places.{SameAtEach};
-ghost use Rattle.limits.specs.Ranges.{AreSettings};
+ghost use Rattle.topk_base.specs.Ranges.{AreSettings};
 ghost use Rattle.catalog_open.specs.Views.{view_over, nothing_told};
 ghost use Rattle.catalog_open.specs.Wanted.{AreRead, IsWanted};
 ghost use Rattle.catalog_open.specs.Slots.{IsIdle, of_slot, sources_in};

@@ -14,10 +14,10 @@ use Rattle.std.proofs.lemmas.Bool.Decides.{nat_tests}
 use Rattle.std.proofs.lemmas.Option.{same_Some}
 use Rattle.std.proofs.lemmas.Str.{IsUtf8-from_ascii}
 use Rattle.std.proofs.lemmas.Str.Ascii.{IsAscii-nil}
-use Rattle.line_text.specs.Cuts.{cut_at, rest_after}
-use Rattle.line_text.specs.Numbers.{number_up_to}
-use Rattle.line_text.proofs.CutLaws.{cut_at-append, cut_at-none, cut_at-some, rest_after-append, rest_after-some}
-use Rattle.line_text.proofs.NumberLaws.{up_to-decimal, decimal-up_to, up_to-some, decimal_bytes}
+use Rattle.topk_base.specs.Cuts.{cut_at, rest_after}
+use Rattle.topk_base.specs.Numbers.{number_up_to}
+use Rattle.topk_base.proofs.CutLaws.{cut_at-append, cut_at-none, cut_at-some, rest_after-append, rest_after-some}
+use Rattle.topk_base.proofs.NumberLaws.{up_to-decimal, decimal-up_to, up_to-some, decimal_bytes}
 use Rattle.catalog_text.specs.Places.{is_remote, is_host_byte, is_path_byte, IsHost, IsPath, SpellsPort, IsAddress, IsPathOrAddress, IsLocation}
 use Rattle.catalog_text.specs.declared.place.Location.{Location}
 use Rattle.catalog_text.specs.declared.place.Location.TheVariants.{File, Http}

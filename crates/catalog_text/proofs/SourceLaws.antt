@@ -5,7 +5,7 @@ use Rattle.std.specs.Option.{option_map}
 use Rattle.std.specs.Borrow.{Bor}
 use Rattle.std.specs.Str.{bytes_eq}
 use Rattle.std.proofs.lemmas.Slice.Eq.{bytes_eq-Decides}
-use Rattle.line_text.specs.Names.{IsName}
+use Rattle.topk_base.specs.Names.{IsName}
 use Rattle.catalog_text.specs.Catalog.{Listed, IsPlace, AllowsAccess, header, spelled, fields_in, yes_or_no}
 use Rattle.catalog_text.specs.declared.fields.Parts.{Parts}
 use Rattle.catalog_text.specs.Listed.{ReadsAccess, ReadsSorted, ReadsHeader, ReadsSource}

@@ -1,8 +1,8 @@
 -- What a catalog is. Each record is the list of its fields.
 use Rattle.std.specs.Prelude.{◌≡◌, ◌≢◌, ◌≤◌, ℕ, Bool, true, false, IsTrue, ◌||◌, List, [], ◌∷◌, Option, Some, None, length, map, codes, All, AllPairs, IsUtf8}
-use Rattle.line_text.specs.Names.{IsName}
+use Rattle.topk_base.specs.Names.{IsName}
 use Rattle.catalog_text.specs.Places.{IsPathOrAddress}
-use Rattle.limits.specs.declared.TheConstants.{MAX_SOURCES}
+use Rattle.topk_base.specs.declared.TheConstants.{MAX_SOURCES}
 
 -- a source: the name of its list, its place, and whether it allows random access, and sorted access
 pub record Listed : Type 0 where

@@ -3,7 +3,7 @@ use Rattle.std.specs.Prelude.{◌≡◌, ◌⊎◌, ◌+◌, ◌<◌, ℕ, Bool,
 use Rattle.catalog_text.specs.declared.catalog.CatalogFault.{CatalogFault}
 use Rattle.catalog_text.specs.declared.catalog.CatalogFault.TheVariants.{CatalogLine, SameName, Memory}
 use Rattle.catalog_text.specs.Catalog.{Listed, header, spelled, IsListed, IsCatalog}
-use Rattle.limits.specs.declared.TheConstants.{MAX_SOURCES}
+use Rattle.topk_base.specs.declared.TheConstants.{MAX_SOURCES}
 
 -- the record has the form that is asked for after these: a header at the beginning, and then at most 64 sources, each with as many fields as the header
 abbrev pub HasForm : List (List (List ℕ)) → List (List ℕ) → Type 0

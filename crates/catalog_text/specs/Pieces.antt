@@ -1,8 +1,8 @@
 -- How an address is taken to pieces, before they are tested.
 use Rattle.std.specs.Prelude.{◌≡◌, ℕ, List, Option, Some, None, if◌then◌else◌, length, drop, codes, nat_le}
 use Rattle.std.specs.Option.{option_map, option_and_then}
-use Rattle.line_text.specs.Cuts.{cut_at, rest_after}
-use Rattle.line_text.specs.Numbers.{number_up_to}
+use Rattle.topk_base.specs.Cuts.{cut_at, rest_after}
+use Rattle.topk_base.specs.Numbers.{number_up_to}
 use Rattle.catalog_text.specs.declared.place.Pieces.{Pieces}
 use Rattle.catalog_text.specs.declared.place.Address.{Address}
 use Rattle.catalog_text.specs.Places.{IsHost, IsPath}

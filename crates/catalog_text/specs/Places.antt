@@ -2,7 +2,7 @@
 use Rattle.std.specs.Prelude.{◌≡◌, ◌⊎◌, ◌||◌, ◌==◌, ◌≤◌, ℕ, Bool, true, false, List, [], ◌∷◌, ◌++◌, length, codes, decimal, nat_eq}
 use Rattle.std.specs.List.{list_all, starts_with, ends_with}
 use Rattle.std.specs.Char.{is_ascii_alphanumeric}
-use Rattle.limits.specs.declared.TheConstants.{MAX_HOST}
+use Rattle.topk_base.specs.declared.TheConstants.{MAX_HOST}
 use Rattle.catalog_text.specs.declared.place.Location.{Location}
 use Rattle.catalog_text.specs.declared.place.Location.TheVariants.{File, Http}
 

@@ -5,7 +5,7 @@ use Rattle.catalog_text.specs.declared.catalog.CatalogFault.TheVariants.{Catalog
 use Rattle.catalog_text.specs.declared.reading.Reading.{Reading}
 use Rattle.catalog_text.specs.Catalog.{Listed, IsCatalogOf}
 use Rattle.catalog_text.specs.Judging.{IsBroken, IsRepeated}
-use Rattle.limits.specs.declared.TheConstants.{MAX_SOURCES}
+use Rattle.topk_base.specs.declared.TheConstants.{MAX_SOURCES}
 
 -- the fault is that of the first record at fault
 abbrev pub IsFault : List (List (List ℕ)) → CatalogFault → Type 0

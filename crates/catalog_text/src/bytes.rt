@@ -4,7 +4,7 @@ ghost use Rattle.std.specs.Prelude.{◌≡◌, ◌==◌, ◌||◌, ◌↔◌, Is
 ghost use Rattle.std.specs.List.{list_all};
 ghost use Rattle.catalog_text.specs.Places.{is_host_byte, is_path_byte, IsHost, IsPath};
 
-use limits::MAX_HOST;
+use topk_base::MAX_HOST;
 
 /// Whether a byte may stand in a host: an ASCII letter, a digit, `.` or `-`.
 fn is_host_byte(byte: u8) -> bool

@@ -10,10 +10,10 @@ ghost use Rattle.catalog_text.specs.Placed.{PutsFirst};
 
 use super::fields::Parts;
 use indexmap::IndexMap;
-use limits::MAX_SOURCES;
 use std::alloc::Global;
 use std::marker::Model;
 use std::slice::Iter;
+use topk_base::MAX_SOURCES;
 
 /// A source of a catalog.
 #[derive(Drop)]
@@ -58,7 +58,7 @@ impl Model for Catalog {
     ghost view = { λ c. map listed c.entries.items };
 
     ghost use Rattle.catalog_text.specs.Placed.{IsPlaced};
-    ghost use Rattle.limits.specs.declared.TheConstants.{MAX_SOURCES};
+    ghost use Rattle.topk_base.specs.declared.TheConstants.{MAX_SOURCES};
 
     ghost invariant = { λ c. (vec_len c.entries ≤ MAX_SOURCES) × IsPlaced c.entries.items c.places };
 }

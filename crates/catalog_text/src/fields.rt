@@ -7,8 +7,8 @@ ghost use Rattle.catalog_text.specs.Listed.{ReadsAccess, ReadsHeader, ReadsSorte
 
 use super::place::location_of;
 use csv::ByteRecord;
-use line_text::is_name;
 use std::str::from_utf8;
+use topk_base::is_name;
 
 /// What the record of a source says.
 #[derive(Drop)]

@@ -3,11 +3,11 @@
 ghost use Rattle.std.specs.Prelude.{◌≡◌, ℕ, List, Some, option_map, MatchOption};
 ghost use Rattle.catalog_text.specs.Places.{is_remote, IsHost, IsPath, IsAddress, IsPathOrAddress, IsLocation};
 ghost use Rattle.catalog_text.specs.Pieces.{port_in, host_and_port, authority_and_path, pieces_in, pieces_now, IsOf};
-ghost use Rattle.line_text.specs.Cuts.{cut_at};
+ghost use Rattle.topk_base.specs.Cuts.{cut_at};
 
 use super::bytes::{is_host, is_path};
-use line_text::{cut_at, number_up_to, rest_after};
 use std::str::from_utf8;
+use topk_base::{cut_at, number_up_to, rest_after};
 
 /// The port of an address that names none.
 const HTTP_PORT: u16 = 80;

@@ -10,8 +10,8 @@ use super::catalog::{Catalog, CatalogFault};
 use super::fields::{Parts, header_in, source_in};
 use csv::ByteRecord;
 use csv_records::{Memory, TakesRecords, read_records};
-use limits::MAX_SOURCES;
 use std::alloc::Global;
+use topk_base::MAX_SOURCES;
 
 /// Reads a catalog: values separated by commas. The first record has the fields `name`, `place` and
 /// `random`, and maybe a fourth, `sorted`. Each further record is a source, of which there are at most 64: the name of its list, a

@@ -10,10 +10,10 @@ use Rattle.topk_theory.proofs.AgreementLists.{slice_get_behind, slice_get_in_ran
 use Rattle.cert_text.specs.declared.certificate.Certificate.{Certificate}
 use Rattle.monotone_fn.specs.Value.{value}
 use Rattle.monotone_fn.specs.Shape.{list_count}
-use Rattle.theta_theory.specs.Within.{Factor}
-use Rattle.guarantee.specs.declared.factor.Guarantee.{Guarantee}
-use Rattle.guarantee.specs.Guarantee.{factor_of, guarantee_of}
-use Rattle.guarantee.proofs.Factors.{there_by, factor_again}
+use Rattle.algorithm_theory.specs.Within.{Factor}
+use Rattle.cert_text.specs.declared.factor.Guarantee.{Guarantee}
+use Rattle.cert_text.specs.Guarantee.{factor_of, guarantee_of}
+use Rattle.cert_text.proofs.Factors.{there_by, factor_again}
 use Rattle.cert_text.specs.Certificate.{version_lines, guaranteed, IsCertificate}
 use Rattle.cert_judge.specs.Figures.{item_figures, guarantee_figures, given_factor, stop_figures, has_line, figures_from, figures_of, refigured, IsFirstDifference, HasItsFigures, IsFirstFigure}
 use Rattle.cert_judge.proofs.Putting.{get_mapped}

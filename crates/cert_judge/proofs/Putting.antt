@@ -7,8 +7,8 @@ use Rattle.std.proofs.lemmas.Grind.{flat_map-append}
 use Rattle.std.proofs.lemmas.List.{take_more}
 use Rattle.std.proofs.lemmas.Option.{slice_get-map, slice_get_within, get_or_from_slice_get}
 use Rattle.std.specs.Option.{option_map}
-use Rattle.line_text.specs.Lines.{unlines}
-use Rattle.line_text.proofs.LineLaws.{unlines-append}
+use Rattle.topk_base.specs.Lines.{unlines}
+use Rattle.topk_base.proofs.LineLaws.{unlines-append}
 use Rattle.ranked_list.specs.declared.row.Row.{Row}
 use Rattle.bundle_text.specs.Bundle.{Content, section, sections, query_line, bundle_lines}
 use Rattle.cert_judge.specs.Text.{refused_line}

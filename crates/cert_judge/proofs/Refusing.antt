@@ -1,6 +1,6 @@
 -- The text of a refusal is its line, and a judged text is told to be fixed or beaten.
 use Rattle.std.proofs.Common.{◌≡◌, ℕ, [], ◌∷◌, ◌++◌, Some, refl, ap, ◌∙◌, append-nil}
-use Rattle.line_text.specs.Lines.{unlines}
+use Rattle.topk_base.specs.Lines.{unlines}
 use Rattle.bundle_text.specs.declared.bundle.Bundle.{Bundle}
 use Rattle.cert_judge.specs.declared.judgement.Judgement.{Judgement}
 use Rattle.cert_judge.specs.declared.judgement.Judgement.TheVariants.{Fixes, Beaten}

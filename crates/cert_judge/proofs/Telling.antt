@@ -3,8 +3,8 @@ use Rattle.std.proofs.Common.{◌≡◌, ℕ, ◌+◌, ◌<◌, ◌≤◌, ◌==
 use Rattle.std.specs.List.{onto_first}
 use Rattle.std.specs.Global.{Vec}
 use Rattle.std.proofs.lemmas.List.{map-append, length-map}
-use Rattle.line_text.specs.Lines.{lines, before_lines, begins_with_end}
-use Rattle.line_text.proofs.LineLaws.{lines-nil, lines-cons}
+use Rattle.topk_base.specs.Lines.{lines, before_lines, begins_with_end}
+use Rattle.topk_base.proofs.LineLaws.{lines-nil, lines-cons}
 use Rattle.ranked_list.specs.declared.item.Item.{Item}
 use Rattle.monotone_fn.specs.Value.{value}
 use Rattle.topk_theory.specs.Threshold.{item_objects}
@@ -13,16 +13,16 @@ use Rattle.topk_theory.proofs.AgreementLists.{front_next, member_of_all}
 use Rattle.access_log.specs.Log.{Log, IsConsistent}
 use Rattle.query_text.specs.Bytes.{bytes_of}
 use Rattle.cert_text.specs.declared.certificate.Certificate.{Certificate}
-use Rattle.theta_theory.specs.Within.{Factor}
+use Rattle.algorithm_theory.specs.Within.{Factor}
 use Rattle.cert_text.specs.Certificate.{version_lines, answer_line, guarantee_lines, guaranteed, access_line, access_lines, stop_line}
 use Rattle.cert_text.specs.Reading.{Spells, IsReadAs, IsCause}
 use Rattle.cert_text.specs.declared.fault.CertFault.{CertFault}
 use Rattle.cert_text.specs.declared.fault.CertFault.TheVariants as cert_fault
-use Rattle.judge_core.specs.declared.verdict.Verdict.{Verdict}
-use Rattle.judge_core.specs.declared.verdict.Verdict.TheVariants as verdict
-use Rattle.judge_core.specs.declared.verdict.JudgeFault.{JudgeFault}
-use Rattle.judge_core.specs.Judging.{IsFair}
-use Rattle.limits.specs.declared.Memory.{Memory}
+use Rattle.cert_judge.specs.declared.verdict.Verdict.{Verdict}
+use Rattle.cert_judge.specs.declared.verdict.Verdict.TheVariants as verdict
+use Rattle.cert_judge.specs.declared.verdict.JudgeFault.{JudgeFault}
+use Rattle.cert_judge.specs.Deciding.{IsFair}
+use Rattle.topk_base.specs.declared.Memory.{Memory}
 use Rattle.cert_judge.specs.declared.judgement.Judgement.{Judgement}
 use Rattle.cert_judge.specs.declared.judgement.Judgement.TheVariants.{BadLine, Inconsistent, WildGuess, WrongSize, UnseenAnswer, Figure, Fixes, Beaten}
 use Rattle.cert_judge.specs.Transcripts.{log_of}

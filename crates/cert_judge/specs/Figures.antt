@@ -6,8 +6,8 @@ use Rattle.monotone_fn.specs.Value.{value}
 use Rattle.topk_theory.specs.Bounds.{bounded}
 use Rattle.topk_theory.specs.Threshold.{item_objects}
 use Rattle.topk_theory.specs.Transcript.{depth, sorted_count, random_count, cost}
-use Rattle.theta_theory.specs.Within.{Factor}
-use Rattle.guarantee.specs.Guarantee.{guarantee_of, guarantee_by}
+use Rattle.algorithm_theory.specs.Within.{Factor}
+use Rattle.cert_text.specs.Guarantee.{guarantee_of, guarantee_by}
 use Rattle.cert_text.specs.declared.certificate.Certificate.{Certificate}
 use Rattle.cert_text.specs.Certificate.{version_lines, guaranteed}
 use Rattle.query_text.specs.Costs.{costs_in_force}

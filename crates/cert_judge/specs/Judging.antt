@@ -6,18 +6,18 @@ use Rattle.monotone_fn.specs.Value.{value}
 use Rattle.monotone_fn.specs.Shape.{list_count}
 use Rattle.topk_theory.specs.Adversary.{counter_table}
 use Rattle.topk_theory.specs.Threshold.{item_objects}
-use Rattle.theta_theory.specs.Within.{Factor}
+use Rattle.algorithm_theory.specs.Within.{Factor}
 use Rattle.access_log.specs.Log.{Log, IsConsistent}
 use Rattle.query_text.specs.Query.{printed}
 use Rattle.cert_text.specs.declared.certificate.Certificate.{Certificate}
 use Rattle.cert_text.specs.Certificate.{guaranteed}
 use Rattle.cert_text.specs.Reading.{Spells, IsFirstFault}
-use Rattle.judge_core.specs.declared.verdict.Verdict.{Verdict}
-use Rattle.judge_core.specs.declared.verdict.Verdict.TheVariants as verdict
-use Rattle.judge_core.specs.declared.verdict.JudgeFault.{JudgeFault}
-use Rattle.judge_core.specs.declared.verdict.JudgeFault.TheVariants as fault
-use Rattle.judge_core.specs.Judging.{Judges, IsFair}
-use Rattle.judge_core.specs.JudgingWithin.{JudgesWithin}
+use Rattle.cert_judge.specs.declared.verdict.Verdict.{Verdict}
+use Rattle.cert_judge.specs.declared.verdict.Verdict.TheVariants as verdict
+use Rattle.cert_judge.specs.declared.verdict.JudgeFault.{JudgeFault}
+use Rattle.cert_judge.specs.declared.verdict.JudgeFault.TheVariants as fault
+use Rattle.cert_judge.specs.Deciding.{Judges, IsFair}
+use Rattle.cert_judge.specs.JudgingWithin.{JudgesWithin}
 use Rattle.cert_judge.specs.declared.judgement.Judgement.{Judgement}
 use Rattle.cert_judge.specs.declared.judgement.Judgement.TheVariants.{BadLine, Inconsistent, WildGuess, WrongSize, UnseenAnswer, Figure, Fixes, Beaten}
 use Rattle.cert_judge.specs.Transcripts.{log_of, IsFirstInconsistent}

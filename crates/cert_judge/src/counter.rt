@@ -7,10 +7,10 @@ ghost use Rattle.cert_judge.specs.Transcripts.{log_of};
 ghost use Rattle.cert_judge.specs.Judging.{IsCounterOf};
 
 use super::Memory;
+use super::beating::counter_table;
 use access_log::Transcript;
 use bundle_text::Bundle;
 use cert_text::Certificate;
-use judge_core::counter_table;
 use query_text::{Names, print};
 use std::alloc::Global;
 

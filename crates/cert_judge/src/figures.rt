@@ -1,7 +1,7 @@
 //! The figures of a certificate, against those that its accesses give.
 
 ghost use Rattle.std.specs.Prelude.{◌≡◌, ◌<◌, ◌≤◌, ◌^◌, ◌==◌, ◌&&◌, ◌↔◌, length, map, filter, MatchOption, IsTrue, Option};
-ghost use Rattle.guarantee.specs.declared.factor.Guarantee.{Guarantee};
+ghost use Rattle.cert_text.specs.declared.factor.Guarantee.{Guarantee};
 ghost use Rattle.monotone_fn.specs.Shape.{list_count};
 ghost use Rattle.monotone_fn.specs.Value.{value};
 ghost use Rattle.topk_theory.specs.Bounds.{low, high, bounded};
@@ -11,8 +11,7 @@ ghost use Rattle.cert_judge.specs.Transcripts.{log_of};
 ghost use Rattle.cert_judge.specs.Figures.{item_figures, guarantee_figures, stop_figures, figures_from, has_line, refigured, FirstOf, HasItsFigures, IsFirstFigure};
 
 use access_log::{Item, Transcript};
-use cert_text::{Certificate, depth_of};
-use guarantee::{Guarantee, guarantee};
+use cert_text::{Certificate, Guarantee, depth_of, guarantee};
 use monotone_fn::Expr;
 use ranked_list::Items;
 

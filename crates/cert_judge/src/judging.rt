@@ -1,7 +1,7 @@
 //! What is told of a text.
 
 ghost use Rattle.std.specs.Prelude.{◌≡◌, ◌<◌, ◌^◌, length, IfOk, Ok};
-ghost use Rattle.line_text.specs.Lines.{lines};
+ghost use Rattle.topk_base.specs.Lines.{lines};
 ghost use Rattle.topk_theory.specs.Threshold.{item_objects};
 ghost use Rattle.access_log.specs.Log.{IsConsistent};
 ghost use Rattle.monotone_fn.specs.Shape.{list_count};
@@ -12,12 +12,13 @@ ghost use Rattle.cert_judge.specs.Judging.{JudgesBy, IsJudged, TellsOfCertificat
 
 use super::Memory;
 use super::counter::counter_of;
+use super::decision::{judge, judge_within};
 use super::figures::first_figure;
 use super::judgement::Judgement;
 use super::transcript::transcript_of;
+use super::verdict::{JudgeFault, Verdict};
 use access_log::{PushFault, Transcript};
 use cert_text::{CertFault, Certificate, read_certificate};
-use judge_core::{JudgeFault, Verdict, judge, judge_within};
 use ranked_list::Items;
 use std::alloc::Global;
 

@@ -5,7 +5,7 @@ ghost use Rattle.std.specs.Io.KnownBytes.{Appends};
 ghost use Rattle.tk_io.specs.Faults.{HasCause};
 ghost use Rattle.tk_io.specs.Whole.{TookFront};
 ghost use Rattle.tk_io.specs.Pieces.{Puts};
-ghost use Rattle.line_text.specs.Lines.{unlines};
+ghost use Rattle.topk_base.specs.Lines.{unlines};
 ghost use Rattle.bundle_text.specs.Bundle.{content, section, bundle_lines};
 ghost use Rattle.cert_judge.specs.Text.{refused_line, named, beaten_line, told_text};
 ghost use Rattle.cert_judge.specs.Refusing.{IsVerdict};

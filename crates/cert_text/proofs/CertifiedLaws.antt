@@ -6,7 +6,7 @@ use Rattle.std.proofs.lemmas.List.{length-map}
 use Rattle.std.proofs.lemmas.List.FromFn.{length-range_with_len}
 use Rattle.std.proofs.lemmas.List.Sums.{count_by-le-length}
 use Rattle.std.proofs.lemmas.List.Elements.{All-weaker}
-use Rattle.line_text.specs.Lines.{lines}
+use Rattle.topk_base.specs.Lines.{lines}
 use Rattle.topk_theory.specs.declared.access.Access.{Access}
 use Rattle.monotone_fn.specs.Value.{value}
 use Rattle.monotone_fn.specs.Shape.{list_count}
@@ -23,8 +23,8 @@ use Rattle.query_text.specs.Query.{IsLawful}
 use Rattle.query_text.specs.declared.algorithm.Algorithm.{Algorithm}
 use Rattle.query_text.specs.declared.algorithm.Algorithm.TheVariants.{Ta, Nra, Ca, Fa, Theta, Early, Taz}
 use Rattle.query_text.proofs.RatedLaws.{factor_counts}
-use Rattle.guarantee.specs.Guarantee.{guarantee_of, guarantee_by}
-use Rattle.guarantee.proofs.Factors.{there_by, early_small}
+use Rattle.cert_text.specs.Guarantee.{guarantee_of, guarantee_by}
+use Rattle.cert_text.proofs.Factors.{there_by, early_small}
 use Rattle.cert_text.specs.declared.outcome.Outcome.TheVariants.{Answered}
 use Rattle.cert_text.specs.Certificate.{IsGuarantee, IsAccess, IsCertificate}
 use Rattle.query_text.specs.Costs.{costs_in_force}

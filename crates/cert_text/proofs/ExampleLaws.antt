@@ -2,7 +2,7 @@
 use Rattle.std.proofs.Common.{◌≡◌, ℕ, ◌<◌, ◌≤◌, List, [], ◌∷◌, length, codes, None, Ok, false, refl, sym, subst, arith}
 use Rattle.std.specs.List.{Contains}
 use Rattle.std.proofs.lemmas.List.Elements.{All-nil, All-cons}
-use Rattle.line_text.specs.Names.{IsName}
+use Rattle.topk_base.specs.Names.{IsName}
 use Rattle.monotone_fn.specs.Tree.{Tree}
 use Rattle.monotone_fn.specs.Shape.{nodes_of}
 use Rattle.monotone_fn.specs.Limits.{IsExpr, top_value}
@@ -16,7 +16,7 @@ use Rattle.cert_text.specs.Reading.{Spells}
 use Rattle.cert_text.proofs.LineLaws.{number_in-line}
 use Rattle.query_text.proofs.LengthLaws.{length-printed}
 use Rattle.cert_text.proofs.SpellLaws.{nothing, nothing_lines, unversioned, whole, counted_spelled, steps_number}
-use Rattle.limits.specs.declared.TheConstants.{MAX_VALUE}
+use Rattle.topk_base.specs.declared.TheConstants.{MAX_VALUE}
 
 -- the best object of one list
 abbrev example : Query

@@ -1,7 +1,7 @@
 -- Judging line by line.
 use Rattle.std.proofs.Common.{◌≡◌, ℕ, suc, ◌+◌, ◌<◌, List, [], ◌∷◌, ◌++◌, length, take, Result, Ok, Err, refl, sym, ap, subst, ◌∙◌, arith}
-use Rattle.line_text.specs.Lines.{lines}
-use Rattle.line_text.proofs.LineLaws.{lines-nil}
+use Rattle.topk_base.specs.Lines.{lines}
+use Rattle.topk_base.proofs.LineLaws.{lines-nil}
 use Rattle.cert_text.specs.declared.fault.CertFault.{CertFault}
 use Rattle.cert_text.specs.declared.fault.CertFault.TheVariants.{BadLine, Memory}
 use Rattle.cert_text.specs.Judging.{Leads, IsFault, Judges, Finds}

@@ -1,3 +1,6 @@
+-- The least of lows, and what the factor of an answer is.
+pub mod LeastLows
+pub mod Factors
 pub mod WritingLaws
 pub mod NumberPlaces
 pub mod FigureLaws

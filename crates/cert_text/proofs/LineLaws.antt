@@ -3,17 +3,17 @@ use Rattle.std.proofs.Common.{◌≡◌, ℕ, ◌<◌, ◌≤◌, ◌^◌, List,
 use Rattle.std.specs.Fmt.{decimal}
 use Rattle.std.proofs.lemmas.Bool.{ne_eqb}
 use Rattle.std.proofs.lemmas.Option.{same_Some}
-use Rattle.line_text.specs.Cuts.{cut_at, rest_after}
-use Rattle.line_text.specs.Numbers.{number_up_to}
-use Rattle.line_text.proofs.CutLaws.{cut_at-append, cut_at-some, rest_after-append, rest_after-some}
-use Rattle.line_text.proofs.NumberLaws.{up_to-decimal, decimal-up_to, up_to-some}
+use Rattle.topk_base.specs.Cuts.{cut_at, rest_after}
+use Rattle.topk_base.specs.Numbers.{number_up_to}
+use Rattle.topk_base.proofs.CutLaws.{cut_at-append, cut_at-some, rest_after-append, rest_after-some}
+use Rattle.topk_base.proofs.NumberLaws.{up_to-decimal, decimal-up_to, up_to-some}
 use Rattle.ranked_list.specs.declared.item.Item.{Item}
 use Rattle.topk_theory.specs.declared.access.Access.{Access}
 use Rattle.topk_theory.specs.declared.access.Access.TheVariants.{Sorted, Random}
 use Rattle.query_text.specs.Query.{name_of}
-use Rattle.theta_theory.specs.Within.{Factor}
-use Rattle.guarantee.specs.declared.factor.Guarantee.{Guarantee}
-use Rattle.guarantee.specs.Guarantee.{factor_of}
+use Rattle.algorithm_theory.specs.Within.{Factor}
+use Rattle.cert_text.specs.declared.factor.Guarantee.{Guarantee}
+use Rattle.cert_text.specs.Guarantee.{factor_of}
 use Rattle.cert_text.specs.declared.parts.Figures.{Figures}
 use Rattle.cert_text.specs.Certificate.{number_line, count_line, version_line, answer_line, guarantee_line, stop_line, access_line, IsItem, IsGuarantee, IsAccess}
 use Rattle.cert_text.specs.Judging.{AreNames, AreFigures}

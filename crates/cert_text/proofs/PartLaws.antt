@@ -11,11 +11,11 @@ use Rattle.std.proofs.lemmas.List.Sums.{position_or_len_is}
 use Rattle.std.proofs.lemmas.List.Quantifiers.{position-Some}
 use Rattle.std.proofs.lemmas.List.Elements.{All-weaker, All-nil, All-cons, All-get_or}
 use Rattle.std.proofs.lemmas.Slice.Eq.{bytes_eq-Decides}
-use Rattle.line_text.specs.Cuts.{cut_at}
-use Rattle.line_text.specs.Names.{is_name_byte, IsName}
-use Rattle.line_text.specs.Numbers.{number_up_to}
-use Rattle.line_text.proofs.CutLaws.{cut_at-append, cut_at-some}
-use Rattle.line_text.proofs.NumberLaws.{up_to-decimal, decimal-up_to, up_to-some, decimal_bytes}
+use Rattle.topk_base.specs.Cuts.{cut_at}
+use Rattle.topk_base.specs.Names.{is_name_byte, IsName}
+use Rattle.topk_base.specs.Numbers.{number_up_to}
+use Rattle.topk_base.proofs.CutLaws.{cut_at-append, cut_at-some}
+use Rattle.topk_base.proofs.NumberLaws.{up_to-decimal, decimal-up_to, up_to-some, decimal_bytes}
 use Rattle.query_text.specs.Query.{name_of}
 use Rattle.cert_text.specs.Judging.{AreNames}
 use Rattle.cert_text.specs.Parts.{number_within, number_before, list_named}

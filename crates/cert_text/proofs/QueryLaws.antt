@@ -1,8 +1,8 @@
 -- The line of a query, read.
 use Rattle.std.proofs.Common.{◌≡◌, ◌≢◌, ℕ, List, ◌++◌, codes, Some, None, Ok, Err, refl, sym, ap, subst, ◌∙◌, ⊎_elim}
 use Rattle.std.proofs.lemmas.Option.{same_Some}
-use Rattle.line_text.specs.Cuts.{rest_after}
-use Rattle.line_text.proofs.CutLaws.{rest_after-some}
+use Rattle.topk_base.specs.Cuts.{rest_after}
+use Rattle.topk_base.proofs.CutLaws.{rest_after-some}
 use Rattle.query_text.specs.declared.query.Query.{Query}
 use Rattle.query_text.specs.declared.fault.QueryFault.{QueryFault}
 use Rattle.query_text.specs.declared.fault.QueryFault.TheVariants.{Memory}

@@ -7,9 +7,9 @@ use Rattle.std.proofs.lemmas.List.Elements.{All-nil, All-cons, All-head, All-tai
 use Rattle.ranked_list.specs.declared.item.Item.{Item}
 use Rattle.topk_theory.specs.declared.access.Access.{Access}
 use Rattle.query_text.specs.declared.query.Query.{Query}
-use Rattle.guarantee.specs.declared.factor.Guarantee.{Guarantee}
-use Rattle.guarantee.specs.Guarantee.{factor_of, has_guarantee}
-use Rattle.theta_theory.specs.Within.{Factor}
+use Rattle.cert_text.specs.declared.factor.Guarantee.{Guarantee}
+use Rattle.cert_text.specs.Guarantee.{factor_of, has_guarantee}
+use Rattle.algorithm_theory.specs.Within.{Factor}
 use Rattle.cert_text.specs.declared.certificate.Certificate.{Certificate}
 use Rattle.cert_text.specs.declared.parts.Figures.{Figures}
 use Rattle.cert_text.specs.Certificate.{number_line, query_line, count_line, version_lines, answer_line, guarantee_line, guarantee_lines, guaranteed, stop_line, access_line, access_lines, IsItem, IsAccess}

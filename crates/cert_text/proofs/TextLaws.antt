@@ -8,10 +8,10 @@ use Rattle.std.proofs.lemmas.List.{get_or_past}
 use Rattle.std.proofs.lemmas.List.Folds.{list_all-append}
 use Rattle.std.proofs.lemmas.List.Elements.{All-nil, All-cons, All-head, All-tail, All-weaker, All-append, All-map, All-contains, All-get_or, Contains-push}
 use Rattle.std.proofs.lemmas.Grind.{flat_map-append}
-use Rattle.line_text.specs.Lines.{lines, unlines, IsPlainLine}
-use Rattle.line_text.specs.Names.{is_name_byte, IsName}
-use Rattle.line_text.proofs.LineLaws.{lines-unlines}
-use Rattle.line_text.proofs.NumberLaws.{decimal_bytes}
+use Rattle.topk_base.specs.Lines.{lines, unlines, IsPlainLine}
+use Rattle.topk_base.specs.Names.{is_name_byte, IsName}
+use Rattle.topk_base.proofs.LineLaws.{lines-unlines}
+use Rattle.topk_base.proofs.NumberLaws.{decimal_bytes}
 use Rattle.ranked_list.specs.declared.item.Item.{Item}
 use Rattle.topk_theory.specs.declared.access.Access.{Access}
 use Rattle.topk_theory.specs.declared.access.Access.TheVariants.{Sorted, Random}
@@ -24,8 +24,8 @@ use Rattle.query_text.specs.Query.{name_of, named_as, written, arguments, weight
 use Rattle.query_text.specs.declared.query.Query.{Query}
 use Rattle.query_text.specs.declared.algorithm.Algorithm.{Algorithm}
 use Rattle.query_text.specs.declared.algorithm.Algorithm.TheVariants.{Ta, Nra, Ca, Fa, Theta, Early, Taz}
-use Rattle.guarantee.specs.declared.factor.Guarantee.{Guarantee}
-use Rattle.guarantee.specs.Guarantee.{factor_of}
+use Rattle.cert_text.specs.declared.factor.Guarantee.{Guarantee}
+use Rattle.cert_text.specs.Guarantee.{factor_of}
 use Rattle.cert_text.specs.declared.certificate.Certificate.{Certificate}
 use Rattle.cert_text.specs.Certificate.{number_line, query_line, count_line, version_lines, answer_line, guarantee_line, guarantee_lines, guaranteed, stop_line, access_line, access_lines, certificate_lines, IsItem, IsGuarantee, IsAccess, IsCertificate}
 use Rattle.cert_text.proofs.LineLaws.{version_text, version_line_some}

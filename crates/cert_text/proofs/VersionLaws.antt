@@ -4,12 +4,12 @@ use Rattle.std.specs.List.{slice_get}
 use Rattle.std.proofs.lemmas.Option.{same_Some, slice_get_within, get_or_from_slice_get}
 use Rattle.std.proofs.lemmas.List.{drop_all, drop_more, get_or-drop, length-drop}
 use Rattle.std.proofs.lemmas.List.Elements.{All-nil, All-cons, All-head, All-tail, All-weaker, All-drop}
-use Rattle.line_text.specs.Lines.{lines}
-use Rattle.line_text.specs.Names.{IsName}
-use Rattle.line_text.proofs.LineLaws.{lines-nil}
+use Rattle.topk_base.specs.Lines.{lines}
+use Rattle.topk_base.specs.Names.{IsName}
+use Rattle.topk_base.proofs.LineLaws.{lines-nil}
 use Rattle.ranked_list.specs.declared.item.Item.{Item}
 use Rattle.topk_theory.specs.declared.access.Access.{Access}
-use Rattle.guarantee.specs.declared.factor.Guarantee.{Guarantee}
+use Rattle.cert_text.specs.declared.factor.Guarantee.{Guarantee}
 use Rattle.cert_text.specs.declared.parts.Figures.{Figures}
 use Rattle.cert_text.specs.declared.reader.Stated.{Stated}
 use Rattle.cert_text.specs.Certificate.{version_lines, answer_line}

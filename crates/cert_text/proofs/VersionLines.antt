@@ -5,8 +5,8 @@ use Rattle.std.proofs.lemmas.Bool.{ne_eqb}
 use Rattle.std.proofs.lemmas.List.Elements.{All-head, All-tail}
 use Rattle.std.proofs.lemmas.Option.{slice_get-get_or}
 use Rattle.std.proofs.lemmas.Slice.Zip.{length-zip, get_or-zip}
-use Rattle.line_text.specs.Lines.{unlines}
-use Rattle.line_text.proofs.LineLaws.{unlines-append}
+use Rattle.topk_base.specs.Lines.{unlines}
+use Rattle.topk_base.proofs.LineLaws.{unlines-append}
 use Rattle.tk_io.specs.Pieces.{Puts, Written}
 use Rattle.tk_io.proofs.Putting.{puts_next}
 use Rattle.query_text.specs.Query.{name_of}

@@ -3,9 +3,9 @@ use Rattle.std.specs.Prelude.{◌≡◌, ◌==◌, ◌≤◌, ◌<◌, ◌^◌, 
 use Rattle.std.specs.List.{join_with_byte, flat_map, zip}
 use Rattle.std.specs.Fmt.{decimal}
 use Rattle.ranked_list.specs.declared.item.Item.{Item}
-use Rattle.theta_theory.specs.Within.{Factor}
-use Rattle.guarantee.specs.declared.factor.Guarantee.{Guarantee}
-use Rattle.guarantee.specs.Guarantee.{factor_of, has_guarantee}
+use Rattle.algorithm_theory.specs.Within.{Factor}
+use Rattle.cert_text.specs.declared.factor.Guarantee.{Guarantee}
+use Rattle.cert_text.specs.Guarantee.{factor_of, has_guarantee}
 use Rattle.topk_theory.specs.declared.access.Access.{Access}
 use Rattle.topk_theory.specs.declared.access.Access.TheVariants.{Sorted, Random}
 use Rattle.topk_theory.specs.Transcript.{list_of, object_of, grade_of}
@@ -13,7 +13,7 @@ use Rattle.query_text.specs.declared.query.Query.{Query}
 use Rattle.query_text.specs.Query.{name_of, printed}
 use Rattle.query_text.specs.Reading.{Reads}
 use Rattle.cert_text.specs.declared.certificate.Certificate.{Certificate}
-use Rattle.limits.specs.declared.TheConstants.{MAX_OBJECTS}
+use Rattle.topk_base.specs.declared.TheConstants.{MAX_OBJECTS}
 
 -- a line of words, with one space between two
 abbrev pub spaced : List (List ℕ) → List ℕ

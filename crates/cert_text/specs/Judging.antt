@@ -9,12 +9,12 @@ use Rattle.topk_theory.specs.declared.access.Access.{Access}
 use Rattle.query_text.specs.declared.query.Query.{Query}
 use Rattle.query_text.specs.Query.{printed}
 use Rattle.query_text.specs.Reading.{Reads}
-use Rattle.line_text.specs.Lines.{lines}
-use Rattle.line_text.specs.Names.{IsName}
+use Rattle.topk_base.specs.Lines.{lines}
+use Rattle.topk_base.specs.Names.{IsName}
 use Rattle.cert_text.specs.declared.fault.CertFault.{CertFault}
 use Rattle.cert_text.specs.declared.fault.CertFault.TheVariants.{BadLine, Memory}
-use Rattle.guarantee.specs.declared.factor.Guarantee.{Guarantee}
-use Rattle.guarantee.specs.Guarantee.{factor_of, has_guarantee}
+use Rattle.cert_text.specs.declared.factor.Guarantee.{Guarantee}
+use Rattle.cert_text.specs.Guarantee.{factor_of, has_guarantee}
 use Rattle.cert_text.specs.declared.parts.Figures.{Figures}
 use Rattle.cert_text.specs.declared.reader.Counted.{Counted}
 use Rattle.cert_text.specs.declared.reader.Ending.{Ending}
@@ -22,7 +22,7 @@ use Rattle.cert_text.specs.declared.reader.Results.{Results}
 use Rattle.cert_text.specs.declared.reader.Stated.{Stated}
 use Rattle.cert_text.specs.Certificate.{query_line, count_line, version_lines, answer_line, guarantee_lines, stop_line, access_lines, IsItem, IsGuarantee, IsAccess}
 use Rattle.cert_text.specs.Parts.{version_in}
-use Rattle.limits.specs.declared.TheConstants.{MAX_LISTS, MAX_OBJECTS}
+use Rattle.topk_base.specs.declared.TheConstants.{MAX_LISTS, MAX_OBJECTS}
 
 -- some value is spelled by the lines
 abbrev pub Spelled : {X : Type 0} → (List (List ℕ) → X → Type 0) → List (List ℕ) → Type 0

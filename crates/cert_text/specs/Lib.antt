@@ -1,3 +1,6 @@
+-- What algorithms guarantee of their answers.
+pub mod Guarantee
+pub mod Lows
 pub mod Refusal
 pub mod Certificate
 pub mod Outcome

@@ -1,26 +1,26 @@
 -- The text of what became of a query line.
 use Rattle.std.specs.Prelude.{◌≡◌, ◌≤◌, ◌<◌, ◌^◌, ℕ, true, List, [], ◌∷◌, length, map, codes, All, Option, Some, None, unwrap_or, option_map}
 use Rattle.std.specs.Fmt.{decimal}
-use Rattle.line_text.specs.Lines.{unlines}
+use Rattle.topk_base.specs.Lines.{unlines}
 use Rattle.monotone_fn.specs.Shape.{list_count}
 use Rattle.monotone_fn.specs.Value.{value}
 use Rattle.monotone_fn.specs.Limits.{IsExpr}
 use Rattle.topk_theory.specs.Transcript.{depth, sorted_count, random_count, cost}
 use Rattle.topk_theory.specs.Threshold.{item_objects}
-use Rattle.theta_theory.specs.Within.{Factor}
+use Rattle.algorithm_theory.specs.Within.{Factor}
 use Rattle.access_log.specs.Log.{Log, IsConsistent, IsWithinLimits}
 use Rattle.machine_base.specs.declared.answer.Answer.{Answer}
 use Rattle.query_text.specs.declared.query.Query.{Query}
 use Rattle.query_text.specs.Costs.{costs_in_force}
 use Rattle.query_text.specs.Query.{IsLawful}
-use Rattle.guarantee.specs.Guarantee.{guarantee_of, has_guarantee, guarantee_by}
+use Rattle.cert_text.specs.Guarantee.{guarantee_of, has_guarantee, guarantee_by}
 use Rattle.cert_text.specs.declared.certificate.Certificate.{Certificate}
 use Rattle.cert_text.specs.declared.outcome.Outcome.{Outcome}
 use Rattle.cert_text.specs.declared.outcome.Outcome.TheVariants.{Answered, Refused}
 use Rattle.cert_text.specs.declared.refusal.Refusal.{Refusal}
 use Rattle.cert_text.specs.Refusal.{refusal_row, field_word, refused_lists}
 use Rattle.cert_text.specs.Certificate.{spaced, stop_line, certificate_lines, IsItem, IsAccess}
-use Rattle.limits.specs.declared.TheConstants.{MAX_NUMBER}
+use Rattle.topk_base.specs.declared.TheConstants.{MAX_NUMBER}
 
 -- the names of a query's lists, none where there is no query
 abbrev pub names_of : Option Query → List (List ℕ)

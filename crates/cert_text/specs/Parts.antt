@@ -1,14 +1,14 @@
 -- What one line of a certificate says, where it says it, as the crate's inner functions read it.
 use Rattle.std.specs.Prelude.{ℕ, List, codes, Option, Some, None, option_and_then, if◌then◌else◌, nat_le, position}
 use Rattle.std.specs.Str.{bytes_eq}
-use Rattle.line_text.specs.Cuts.{cut_at, rest_after}
-use Rattle.line_text.specs.Numbers.{number_up_to}
+use Rattle.topk_base.specs.Cuts.{cut_at, rest_after}
+use Rattle.topk_base.specs.Numbers.{number_up_to}
 use Rattle.ranked_list.specs.declared.item.Item.{Item}
 use Rattle.topk_theory.specs.declared.access.Access.{Access}
 use Rattle.topk_theory.specs.declared.access.Access.TheVariants.{Sorted, Random}
-use Rattle.guarantee.specs.declared.factor.Guarantee.{Guarantee}
+use Rattle.cert_text.specs.declared.factor.Guarantee.{Guarantee}
 use Rattle.cert_text.specs.declared.parts.Figures.{Figures}
-use Rattle.limits.specs.declared.TheConstants.{MAX_OBJECTS}
+use Rattle.topk_base.specs.declared.TheConstants.{MAX_OBJECTS}
 
 infixl 10 ◌>>=◌
 abbrev pub ◌>>=◌ : {A B : Type 0} → Option A → (A → Option B) → Option B

@@ -1,10 +1,10 @@
 //! Certificates.
 
+use super::factor::Guarantee;
 use super::versions::Versions;
 use access_log::Items;
-use guarantee::Guarantee;
-use listed::Listed;
 use query_text::Query;
+use topk_base::Listed;
 use topk_theory::Access;
 
 /// Accesses in order.

@@ -14,9 +14,17 @@
 //! ```
 //!
 //! A refused query line is one line: `refused LINE`, the name of the refusal and its fields.
+//!
+//! Within which factor of the best an answer is, by its query's algorithm.
+//!
+//! It is the factor that is asked for, or what the transcript of an early stop shows. Whoever writes a certificate and whoever judges one reckon it
+//! from the same.
 #![tactic(auto)]
 
+mod algorithms;
 mod certificate;
+mod early;
+mod factor;
 mod fault;
 mod fields;
 mod outcome;
@@ -29,7 +37,10 @@ mod versions;
 mod words;
 mod writing;
 
+pub use algorithms::{guarantee, has_guarantee};
 pub use certificate::{Accesses, Certificate};
+pub use early::early_guarantee;
+pub use factor::Guarantee;
 pub use fault::CertFault;
 pub use outcome::{Outcome, put_outcome, write_outcome};
 pub use reading::read_certificate;

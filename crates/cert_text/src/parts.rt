@@ -2,14 +2,13 @@
 
 ghost use Rattle.std.specs.Prelude.{◌≡◌, ◌≤◌, length, IfSome};
 ghost use Rattle.std.specs.Option.{option_map};
-ghost use Rattle.limits.specs.declared.TheConstants.{MAX_LISTS};
+ghost use Rattle.topk_base.specs.declared.TheConstants.{MAX_LISTS};
 ghost use Rattle.cert_text.specs.Parts.{number_within, number_before, number_in, count_in, version_in, item_in, guarantee_in, figures_after, figures_in, list_named, row_in, access_in};
 
+use super::factor::Guarantee;
 use access_log::{Access, Item};
-use guarantee::Guarantee;
-use limits::MAX_OBJECTS;
-use line_text::{cut_at, number_up_to, rest_after};
 use query_text::Names;
+use topk_base::{MAX_OBJECTS, cut_at, number_up_to, rest_after};
 
 /// The greatest number of 32 bits.
 const TOP_32: u64 = 0xffff_ffff;

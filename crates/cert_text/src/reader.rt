@@ -1,17 +1,18 @@
 //! The lines of a certificate, read one after another.
 
 ghost use Rattle.std.specs.Prelude.{◌≡◌, ◌↔◌, ◌+◌, ◌<◌, ◌≤◌, ◌^◌, length, codes, true, false, IsTrue, IfOk};
-ghost use Rattle.line_text.specs.Lines.{lines};
-ghost use Rattle.guarantee.specs.Guarantee.{has_guarantee};
+ghost use Rattle.topk_base.specs.Lines.{lines};
+ghost use Rattle.cert_text.specs.Guarantee.{has_guarantee};
 ghost use Rattle.cert_text.specs.Judging.{AreNames, Finds, SpellsNone, FindsQuery, SpellsAccesses, SpellsStopped, SpellsEnding, SpellsFound, SpellsVersioned, SpellsCounted, SpellsQueried, States, ending_of, found_of, counted_of, queried_of};
 
+use super::algorithms::has_guarantee;
+use super::factor::Guarantee;
 use super::fault::CertFault;
 use super::parts::{Figures, access_of, count_of, figures_of, guarantee_of, item_of, version_of};
 use access_log::{Access, Item};
-use guarantee::{Guarantee, has_guarantee};
-use line_text::{first_line, rest_after};
 use query_text::{Memory, Names, Query, QueryFault, read};
 use std::alloc::Global;
+use topk_base::{first_line, rest_after};
 
 /// What a certificate says behind the objects of an answer.
 #[derive(Drop)]

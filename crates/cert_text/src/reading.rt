@@ -1,7 +1,7 @@
 //! Certificates, read.
 
 ghost use Rattle.std.specs.Prelude.{◌≡◌, ℕ, List, Some, IfOk, IfErr};
-ghost use Rattle.line_text.specs.Lines.{lines};
+ghost use Rattle.topk_base.specs.Lines.{lines};
 ghost use Rattle.machine_base.specs.declared.answer.Answer.{Answer};
 ghost use Rattle.query_text.specs.declared.query.Query.{Query};
 ghost use Rattle.cert_text.specs.declared.outcome.Outcome.TheVariants.{Answered};
@@ -15,8 +15,8 @@ use super::parts::number_of;
 use super::reader::{Counted, Ending, Results, read_queried};
 use super::versions::Versions;
 use access_log::Items;
-use line_text::first_line;
 use std::alloc::Global;
+use topk_base::first_line;
 
 /// The certificate that the lines of a text spell.
 fn read_lines(alloc: Global, bytes: &[u8]) -> Result<Certificate, CertFault>

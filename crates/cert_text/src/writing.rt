@@ -3,18 +3,19 @@
 ghost use Rattle.std.specs.Prelude.{◌≡◌, ◌++◌, ◌∷◌, [], length, map, option_map};
 ghost use Rattle.std.specs.Fmt.{decimal};
 ghost use Rattle.tk_io.specs.Pieces.{Puts};
-ghost use Rattle.line_text.specs.Lines.{unlines};
+ghost use Rattle.topk_base.specs.Lines.{unlines};
 ghost use Rattle.topk_theory.specs.Transcript.{depth};
 ghost use Rattle.query_text.specs.Query.{name_of};
 ghost use Rattle.monotone_fn.specs.Shape.{list_count};
-ghost use Rattle.guarantee.specs.Guarantee.{factor_of};
+ghost use Rattle.cert_text.specs.Guarantee.{factor_of};
 ghost use Rattle.cert_text.specs.Certificate.{spaced, version_line, version_lines, answer_line, guarantee_lines, access_line, certificate_lines};
 ghost use Rattle.cert_text.specs.Outcome.{HasCost, factor_for, certificate_of, figures_line};
 
+use super::algorithms::guarantee;
+use super::factor::Guarantee;
 use super::rows::put_row;
 use super::words::{Word, put_line};
 use access_log::{Access, Items, Transcript};
-use guarantee::{Guarantee, guarantee};
 use machine_base::Answer;
 use query_text::{Names, Query, put_query};
 use tk_io::Put;

@@ -3,5 +3,5 @@
 
 mod read;
 
-pub use limits::Memory;
 pub use read::{TakesRecords, read_records};
+pub use topk_base::Memory;

@@ -16,7 +16,7 @@ use Rattle.machine_base.proofs.Asks.{asked_for_once}
 use Rattle.machine_base.proofs.Held.{some_before, carried, takes}
 use Rattle.machine_base.proofs.Depths.{first_reached}
 use Rattle.machine_base.proofs.Reserve.{row_can}
-use Rattle.fa_theory.specs.Fagin.{fa_stop}
+use Rattle.algorithm_theory.specs.Fagin.{fa_stop}
 use Rattle.fa_core.specs.declared.stage.Stage.{Stage}
 use Rattle.fa_core.specs.declared.stage.Stage.TheVariants as stages
 use Rattle.fa_core.specs.Course.{need_at, asking, common_after, row_followed}

@@ -17,8 +17,8 @@ use Rattle.topk_theory.proofs.Consistent.{kind_excludes}
 use Rattle.topk_theory.proofs.Counts.{count_first, count_no, count_same, count_append, count_upto}
 use Rattle.machine_base.specs.Asking.{next_unknown}
 use Rattle.machine_base.proofs.Unknown.{unknown_other}
-use Rattle.fa_theory.specs.Fagin.{known_whole}
-use Rattle.fa_theory.proofs.Common.{each_known, unread_unknown}
+use Rattle.algorithm_theory.specs.Fagin.{known_whole}
+use Rattle.algorithm_theory.proofs.FaginCommon.{each_known, unread_unknown}
 use Rattle.fa_core.specs.Course.{common_after}
 
 -- the object has all its grades in m lists

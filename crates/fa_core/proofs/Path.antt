@@ -12,9 +12,9 @@ use Rattle.machine_base.specs.Depths.{IsReached, read_to}
 use Rattle.machine_base.specs.Asking.{all_missing}
 use Rattle.machine_base.proofs.Depths.{IsOwn, is_own, next_reached}
 use Rattle.machine_base.proofs.Rows.{ReadsRows, read_more, read_whole, read_none}
-use Rattle.fa_theory.specs.Fagin.{fa_stop, fa_depth, fa_rows, fa_run, known_whole}
-use Rattle.fa_theory.proofs.Common.{stop_shown}
-use Rattle.fa_theory.proofs.Least.{fa_depth_is_least}
+use Rattle.algorithm_theory.specs.Fagin.{fa_stop, fa_depth, fa_rows, fa_run, known_whole}
+use Rattle.algorithm_theory.proofs.FaginCommon.{stop_shown}
+use Rattle.algorithm_theory.proofs.FaginLeast.{fa_depth_is_least}
 use Rattle.fa_core.specs.OnTable.{OnRow}
 
 -- the run goes by rows, and ends at the algorithm's own depth

@@ -24,7 +24,7 @@ use Rattle.machine_base.proofs.Asks.{asks_begin, ask_served}
 use Rattle.machine_base.proofs.Held.{held_asked}
 use Rattle.machine_base.proofs.Makes.{makes_run, at_access, at_end}
 use Rattle.machine_base.proofs.Rows.{row_needed}
-use Rattle.fa_theory.specs.Fagin.{fa_stop, fa_depth, fa_rows, fa_asks, fa_run, fagin_run}
+use Rattle.algorithm_theory.specs.Fagin.{fa_stop, fa_depth, fa_rows, fa_asks, fa_run, fagin_run}
 use Rattle.fa_core.specs.declared.stage.Stage.{Stage}
 use Rattle.fa_core.specs.declared.stage.Stage.TheVariants as stages
 use Rattle.fa_core.specs.Course.{need_at}

@@ -25,9 +25,9 @@ use Rattle.machine_base.specs.Asking.{AreKnown}
 use Rattle.machine_base.proofs.Held.{held_asked}
 use Rattle.machine_base.proofs.Known.{low_exact}
 use Rattle.machine_base.proofs.Makes.{answer_by}
-use Rattle.fa_theory.specs.Fagin.{fa_seen, fa_answer, fagin_answer}
-use Rattle.fa_theory.proofs.Runs.{always_no_shallower}
-use Rattle.fa_theory.proofs.Top.{fa_answer_top, answer_seen}
+use Rattle.algorithm_theory.specs.Fagin.{fa_seen, fa_answer, fagin_answer}
+use Rattle.algorithm_theory.proofs.FaginRuns.{always_no_shallower}
+use Rattle.algorithm_theory.proofs.FaginTop.{fa_answer_top, answer_seen}
 use Rattle.fa_core.specs.declared.stage.Stage.{Stage}
 use Rattle.fa_core.specs.declared.stage.Stage.TheVariants as stages
 use Rattle.fa_core.specs.Course.{need_at, valued}

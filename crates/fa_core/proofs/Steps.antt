@@ -15,7 +15,7 @@ use Rattle.machine_base.specs.declared.asking.Ask.{Ask}
 use Rattle.machine_base.specs.Asking.{ask_from, AreListed, IsAsking, AsksNext, LeavesAsks}
 use Rattle.machine_base.proofs.Held.{held_more, held_asked}
 use Rattle.machine_base.proofs.Asks.{asks_first, asks_more, leaves_asks, leaves_more}
-use Rattle.fa_theory.specs.Fagin.{fa_rows, fa_seen, fa_run, known_whole}
+use Rattle.algorithm_theory.specs.Fagin.{fa_rows, fa_seen, fa_run, known_whole}
 use Rattle.fa_core.specs.declared.stage.Stage.{Stage}
 use Rattle.fa_core.specs.declared.stage.Stage.TheVariants as stages
 use Rattle.fa_core.specs.Course.{asking, common_after, row_ended, row_followed}

@@ -8,7 +8,7 @@ use Rattle.topk_theory.specs.Transcript.{Agrees, random_rows, seen_objects}
 use Rattle.machine_base.specs.declared.base.Base.{Base}
 use Rattle.machine_base.specs.Base.{IsHeld, IsReserved}
 use Rattle.machine_base.specs.Asking.{IsAsking, AreAsked}
-use Rattle.fa_theory.specs.Fagin.{known_whole}
+use Rattle.algorithm_theory.specs.Fagin.{known_whole}
 use Rattle.fa_core.specs.declared.stage.Stage.{Stage}
 use Rattle.fa_core.specs.declared.stage.Stage.TheVariants as stages
 use Rattle.fa_core.specs.OnTable.{OnTable}

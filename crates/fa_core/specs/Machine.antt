@@ -3,7 +3,7 @@ use Rattle.std.specs.Prelude.{List}
 use Rattle.ranked_list.specs.declared.item.Item.{Item}
 use Rattle.monotone_fn.specs.Value.{value}
 use Rattle.machine_base.specs.Machine.{MachineState, MakesRun, IsAnswerBy}
-use Rattle.fa_theory.specs.Fagin.{fagin_run, fagin_answer, IsNoShallower}
+use Rattle.algorithm_theory.specs.Fagin.{fagin_run, fagin_answer, IsNoShallower}
 
 -- the machine makes the run of Fagin's algorithm
 abbrev pub MakesItsRun : MachineState → Type 0

@@ -6,7 +6,7 @@ use Rattle.topk_theory.specs.Transcript.{seen_objects}
 use Rattle.topk_theory.specs.NoRandom.{nra_run_to}
 use Rattle.machine_base.specs.Depths.{IsReached, read_to}
 use Rattle.machine_base.specs.Asking.{all_missing}
-use Rattle.fa_theory.specs.Fagin.{fa_stop, fa_seen, fa_run}
+use Rattle.algorithm_theory.specs.Fagin.{fa_stop, fa_seen, fa_run}
 use Rattle.fa_core.specs.declared.stage.Stage.{Stage}
 use Rattle.fa_core.specs.declared.stage.Stage.TheVariants as stages
 

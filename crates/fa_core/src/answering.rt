@@ -8,7 +8,7 @@ ghost use Rattle.topk_theory.specs.Transcript.{seen_objects};
 ghost use Rattle.fa_core.specs.Course.{valued};
 
 use access_log::{Item, Transcript};
-use best_k::put_in_order;
+use machine_base::put_in_order;
 use monotone_fn::Expr;
 
 /// Puts the seen objects, all grades of which are known, into `items`, which is empty and has room for them: each with

@@ -6,12 +6,12 @@ use super::answering::first_items;
 use super::following::{ask_on, common_after, follow_row};
 use super::stage::Stage;
 use access_log::{Access, Item, Items, Transcript};
-use limits::MAX_OBJECTS;
 use machine_base::{Answer, Base, CoreFault, Memory, Need};
 use monotone_fn::{Costs, Expr};
 use ranked_list::Row;
 use std::alloc::Global;
 use std::marker::Model;
+use topk_base::MAX_OBJECTS;
 
 /// Fagin's algorithm on one query. It says which access it needs next, and is fed what that access gave. Contracts see
 /// it as a `MachineState`.

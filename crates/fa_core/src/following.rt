@@ -7,8 +7,8 @@ ghost use Rattle.machine_base.specs.Base.{Holds};
 ghost use Rattle.fa_core.specs.Course.{asking, common_after, row_followed};
 
 use super::stage::Stage;
-use limits::MAX_OBJECTS;
 use machine_base::{Base, ask_from, next_unknown};
+use topk_base::MAX_OBJECTS;
 
 /// How many objects every list has given, after a row with this object: one more where its grades are all known now,
 /// since only rows were read. No pass over the objects.

@@ -11,9 +11,9 @@ use super::Memory;
 use super::numbers::field_number;
 use csv::ByteRecord;
 use csv_records::{TakesRecords, read_records};
-use limits::MAX_OBJECTS;
 use ranked_list::Row;
 use std::alloc::Global;
+use topk_base::MAX_OBJECTS;
 
 /// The records of a list file that have been read so far.
 #[derive(Drop)]

@@ -3,7 +3,7 @@
 ghost use Rattle.std.specs.Prelude.{◌≡◌};
 ghost use Rattle.file_source.specs.ListFile.{field_number};
 
-use line_text::{are_digits, value_of_digits};
+use topk_base::{are_digits, value_of_digits};
 
 /// The number that a field of 1 to 10 digits spells, leading zeros among them, where it is at most
 /// 4,294,967,295.

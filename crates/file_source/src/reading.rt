@@ -5,10 +5,10 @@ ghost use Rattle.source_api.specs.Places.{text_limit};
 ghost use Rattle.file_source.specs.Reading.{ReadsList, IsFileTrouble};
 
 use super::file_tree::FileTree;
-use limits::MAX_LIST_TEXT;
 use source_api::{FailKind, Trouble};
 use std::alloc::Global;
 use tk_io::{Intake, ReadError, read_text};
+use topk_base::MAX_LIST_TEXT;
 
 /// Reads a file whole. A file that isn't there or can't be read, or one of more than 16,777,216
 /// bytes, is `Failed`. No other trouble comes but `Memory`.

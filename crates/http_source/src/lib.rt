@@ -10,4 +10,4 @@ mod tails;
 
 pub use http_source::HttpSource;
 pub use laws::{replies_say_one_thing, what_is_said_is_given};
-pub use limits::Memory;
+pub use topk_base::Memory;

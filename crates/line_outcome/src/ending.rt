@@ -5,12 +5,12 @@ ghost use Rattle.line_outcome.specs.LineOutcomes.{line_refused, IsEndedAs};
 
 use super::outcome::ended_outcome;
 use cert_text::{Outcome, Refusal, Versions};
-use limits::Memory;
 use query_admission::LineOutcome;
 use query_core::Ready;
 use query_run::Ended;
 use query_text::Query;
 use std::alloc::Global;
+use topk_base::Memory;
 
 /// The outcome of a line that is refused before it runs, beside its query where that was read. Takes no memory.
 pub fn line_refused(alloc: Global, refusal: Refusal, query: Option<Query>) -> LineOutcome

@@ -1,3 +1,10 @@
+pub mod HeldLaws
+pub mod Halving
+pub mod Joining
+pub mod Rising
+pub mod BoardLaws
+pub mod Placing
+pub mod KeptLaws
 pub mod MachineLaws
 pub mod Depths
 pub mod Held

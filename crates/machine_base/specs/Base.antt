@@ -12,7 +12,7 @@ use Rattle.machine_base.specs.Machine.{MachineState, IsPosed, IsOneMore, HasRoom
 use Rattle.machine_base.specs.declared.core_fault.CoreFault.{CoreFault}
 use Rattle.machine_base.specs.declared.core_fault.CoreFault.TheVariants.{Strangers, RoomFull}
 use Rattle.machine_base.specs.declared.base.Base.{Base}
-use Rattle.limits.specs.declared.TheConstants.{MAX_LISTS, MAX_OBJECTS}
+use Rattle.topk_base.specs.declared.TheConstants.{MAX_LISTS, MAX_OBJECTS}
 
 -- what contracts see of a machine that holds this and needs that
 abbrev pub shown : Base → Need → MachineState

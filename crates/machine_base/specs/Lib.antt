@@ -1,3 +1,7 @@
+pub mod Held
+pub mod Rank
+pub mod Halves
+pub mod Kept
 pub mod Machine
 pub mod Base
 pub mod Depths

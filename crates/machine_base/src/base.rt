@@ -7,10 +7,10 @@ ghost use Rattle.machine_base.specs.Base.{shown, Holds, IsReserved, IsTold, CanT
 
 use super::core_fault::CoreFault;
 use access_log::{Access, Memory, Transcript};
-use limits::MAX_OBJECTS;
 use monotone_fn::{Costs, Expr};
 use ranked_list::Need;
 use std::alloc::Global;
+use topk_base::MAX_OBJECTS;
 
 /// What a machine holds of its query and of its accesses, whatever its algorithm: the expression, how
 /// many objects are asked, how many it may see, the costs of accesses, and the accesses so far.

@@ -8,7 +8,7 @@ use Rattle.std.proofs.lemmas.Bool.{cases_eq}
 use Rattle.std.proofs.lemmas.List.Sums.{AllPass-from_list_all}
 use Rattle.std.proofs.lemmas.List.Elements.{Contains-append_left}
 use Rattle.std.proofs.lemmas.List.FromFn.{length-range_with_len, length-map-range_with_len, get_or-range_with_len}
-use Rattle.line_text.specs.Names.{is_name, IsName}
+use Rattle.topk_base.specs.Names.{is_name, IsName}
 use Rattle.monotone_fn.specs.Tree.{Tree, trees, terms}
 use Rattle.monotone_fn.specs.Shape.{nodes_of, nodes_in, nodes_under, NumbersLists}
 use Rattle.monotone_fn.specs.Limits.{Makes}

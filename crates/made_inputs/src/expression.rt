@@ -5,9 +5,9 @@ ghost use Rattle.monotone_fn.specs.Shown.{tree_of, term_of};
 ghost use Rattle.made_inputs.specs.MadeQueries.{list_trees, list_terms, made_tree};
 
 use super::Memory;
-use limits::MAX_LISTS;
 use monotone_fn::{Expr, Node, Nodes, Term, Terms};
 use std::alloc::Global;
+use topk_base::MAX_LISTS;
 
 /// The grades in each of so many lists.
 fn list_nodes(alloc: Global, lists: u8) -> Result<Vec<Node>, Memory>

@@ -3,7 +3,7 @@
 ghost use Rattle.std.specs.Prelude.{◌≡◌};
 ghost use Rattle.made_inputs.specs.Made.{next_state, grade_of};
 
-use limits::TOP_GRADE;
+use topk_base::TOP_GRADE;
 
 /// What a state is multiplied with, and what is added then. Both are Knuth's, of MMIX.
 const MULTIPLIER: u64 = 6_364_136_223_846_793_005;

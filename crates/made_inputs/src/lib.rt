@@ -8,6 +8,6 @@ mod generator;
 mod query;
 mod table;
 
-pub use limits::Memory;
 pub use query::made_query;
 pub use table::make_table;
+pub use topk_base::Memory;

@@ -7,9 +7,9 @@ ghost use Rattle.made_inputs.specs.MadeQueries.{made_algorithm, made_query};
 
 use super::Memory;
 use super::expression::made_expr;
-use limits::MAX_LISTS;
 use query_text::{Algorithm, Costs, Names, Query};
 use std::alloc::Global;
+use topk_base::MAX_LISTS;
 
 /// The name of a list by its number, from 1.
 fn name_of(alloc: Global, number: u8) -> Result<Vec<u8>, Memory>

@@ -4,7 +4,7 @@ use Rattle.std.specs.Prelude.{unwrap_or}
 use Rattle.std.proofs.lemmas.List.Elements.{All-nil, All-cons, All-head, All-tail, All-map}
 use Rattle.monotone_fn.specs.Value.{with_zeros, with_bottoms}
 use Rattle.monotone_fn.specs.Limits.{AreGrades, AreGradesWhereKnown}
-use Rattle.limits.specs.declared.TheConstants.{TOP_GRADE}
+use Rattle.topk_base.specs.declared.TheConstants.{TOP_GRADE}
 
 pub length-with_bottoms : (known : List (Option ℕ)) (bottoms : List ℕ) → length bottoms ≡ length known → length (with_bottoms known bottoms) ≡ length known
 length-with_bottoms [] bottoms h = refl

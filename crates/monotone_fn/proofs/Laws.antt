@@ -13,7 +13,7 @@ use Rattle.monotone_fn.specs.Shape.{greatest, nodes_of, nodes_below, list_count}
 use Rattle.monotone_fn.specs.Value.{least, value, values, products, with_zeros, with_bottoms, low, high, NoSmaller, IsMonotone, IsWithin}
 use Rattle.monotone_fn.specs.Limits.{AreGrades, top_value, IsExpr}
 use Rattle.monotone_fn.proofs.Medians.{AllLe, median-AllLe}
-use Rattle.limits.specs.declared.TheConstants.{MAX_LISTS, MAX_VALUE, TOP_GRADE}
+use Rattle.topk_base.specs.declared.TheConstants.{MAX_LISTS, MAX_VALUE, TOP_GRADE}
 
 -- ---- each operator is monotone
 least-AllLe : (ms ns : List ℕ) → AllLe ms ns → least ms ≤ least ns

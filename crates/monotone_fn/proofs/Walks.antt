@@ -16,7 +16,7 @@ use Rattle.monotone_fn.specs.declared.node.Term.{Term}
 use Rattle.monotone_fn.specs.Value.{value, values, products}
 use Rattle.monotone_fn.specs.Limits.{passes, Passes, top_value, AreGrades}
 use Rattle.monotone_fn.proofs.Laws.{value-le-top_value, nodes_of-below}
-use Rattle.limits.specs.declared.TheConstants.{MAX_LISTS, MAX_VALUE, TOP_GRADE}
+use Rattle.topk_base.specs.declared.TheConstants.{MAX_LISTS, MAX_VALUE, TOP_GRADE}
 
 -- ---- the first that passes, of two lists
 pub position_from-append_none : {A : Type 0} (p : A → Bool) (i : ℕ) (xs ys : List A) → position_from p i xs ≡ None

@@ -6,7 +6,7 @@ use Rattle.monotone_fn.specs.Shape.{nodes_of, node_count, depth, NumbersLists}
 use Rattle.monotone_fn.specs.Value.{value}
 use Rattle.monotone_fn.specs.declared.fault.ExprFault.{ExprFault}
 use Rattle.monotone_fn.specs.declared.fault.ExprFault.TheVariants.{TooManyNodes, TooDeep, TooBig, Memory}
-use Rattle.limits.specs.declared.TheConstants.{MAX_DEPTH, MAX_LISTS, MAX_NODES, MAX_VALUE, TOP_GRADE}
+use Rattle.topk_base.specs.declared.TheConstants.{MAX_DEPTH, MAX_LISTS, MAX_NODES, MAX_VALUE, TOP_GRADE}
 
 -- each is a grade
 abbrev pub AreGrades : List ℕ → Type 0

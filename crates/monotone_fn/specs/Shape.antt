@@ -1,7 +1,7 @@
 -- The nodes of a tree, how deep it is, and which lists it names.
 use Rattle.std.specs.Prelude.{ℕ, ◌+◌, ◌<◌, ◌≤◌, max, List, [], ◌∷◌, ◌++◌, length, All, Contains}
 use Rattle.monotone_fn.specs.Tree.{Tree, Trees, Terms}
-use Rattle.limits.specs.declared.TheConstants.{MAX_LISTS}
+use Rattle.topk_base.specs.declared.TheConstants.{MAX_LISTS}
 
 -- the greatest number of a list, or 0 where there is none
 abbrev pub greatest : List ℕ → ℕ

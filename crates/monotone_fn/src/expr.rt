@@ -12,9 +12,9 @@ use super::grades::{bottoms_filled, value_of, zeros_filled};
 use super::node::Node;
 use super::shape::{Extent, extent_of};
 use super::value::value_at;
-use limits::{MAX_DEPTH, MAX_LISTS, MAX_NODES, MAX_VALUE, TOP_GRADE};
 use std::alloc::Global;
 use std::marker::Model;
+use topk_base::{MAX_DEPTH, MAX_LISTS, MAX_NODES, MAX_VALUE, TOP_GRADE};
 
 /// An expression within the limits, which contracts see as its tree. Each of its values fits in 63 bits.
 #[derive(Drop)]

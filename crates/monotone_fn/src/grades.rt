@@ -8,7 +8,7 @@ ghost use Rattle.monotone_fn.specs.Shown.{tree_of};
 
 use super::node::Node;
 use super::value::value_at;
-use limits::{MAX_LISTS, MAX_VALUE};
+use topk_base::{MAX_LISTS, MAX_VALUE};
 
 /// The value of an expression at grades. No node's value passes [`MAX_VALUE`], since none does at the top grades.
 pub(crate) fn value_of(root: &Node, grades: &[u32]) -> u64

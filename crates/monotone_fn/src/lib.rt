@@ -15,5 +15,5 @@ mod values;
 pub use costs::Costs;
 pub use expr::Expr;
 pub use fault::ExprFault;
-pub use limits::Memory;
 pub use node::{Node, Nodes, Term, Terms};
+pub use topk_base::Memory;

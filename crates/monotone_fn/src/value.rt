@@ -11,7 +11,7 @@ ghost use Rattle.monotone_fn.specs.Shown.{tree_of};
 use super::node::{Node, Nodes, Terms};
 use super::summary::Summary;
 use super::values::Values;
-use limits::{MAX_NODES, MAX_VALUE};
+use topk_base::{MAX_NODES, MAX_VALUE};
 
 /// The value of a node. `ended` rises by one where a node's text ends. None where a node's value passes
 /// [`MAX_VALUE`]: `ended` is then at the first such.

@@ -3,8 +3,8 @@
 ghost use Rattle.std.specs.Prelude.{◌≡◌, ◌<◌, [], ◌∷◌, ◌++◌, length};
 ghost use Rattle.monotone_fn.specs.Value.{median, IsMedian};
 
-use limits::MAX_NODES;
 use std::marker::Model;
+use topk_base::MAX_NODES;
 
 /// As many numbers as an expression may have nodes, at most. Contracts see their list.
 #[derive(Drop)]
@@ -15,7 +15,7 @@ pub(crate) struct Values {
 
 impl Model for Values {
     ghost use Rattle.std.specs.Prelude.{ℕ, ◌≤◌, List, take};
-    ghost use Rattle.limits.specs.declared.TheConstants.{MAX_NODES};
+    ghost use Rattle.topk_base.specs.declared.TheConstants.{MAX_NODES};
 
     ghost Value = { List ℕ };
 

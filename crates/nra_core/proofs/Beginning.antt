@@ -2,9 +2,9 @@
 use Rattle.std.proofs.Common.{◌≡◌, ◌≤◌, ℕ, true, false, min, List, [], Option, Some, None, replicate, slice_get, refl, sym, ◌∙◌, subst, arith}
 use Rattle.std.proofs.lemmas.List.{length-replicate}
 use Rattle.std.proofs.lemmas.Option.{none-some, slice_get_past}
-use Rattle.indexed_heap.proofs.Within.{none_ranked}
-use Rattle.indexed_heap.specs.declared.slots.Entry.{Entry}
-use Rattle.indexed_heap.specs.Slots.{Slots}
+use Rattle.containers.proofs.Within.{none_ranked}
+use Rattle.containers.specs.declared.slots.Entry.{Entry}
+use Rattle.containers.specs.Slots.{Slots}
 use Rattle.topk_theory.specs.Bounds.{low, high}
 use Rattle.topk_theory.proofs.AgreementLists.{contains_nil}
 use Rattle.nra_core.specs.Late.{KeepsCandidates}

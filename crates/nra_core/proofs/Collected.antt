@@ -14,7 +14,7 @@ use Rattle.topk_theory.specs.Bounds.{bounded, low, high}
 use Rattle.topk_theory.specs.NoRandom.{seen_items}
 use Rattle.topk_theory.proofs.InOrder.{length-in_order}
 use Rattle.topk_theory.proofs.NoRandomLaws.{items_distinct}
-use Rattle.indexed_heap.specs.Slots.{Slots}
+use Rattle.containers.specs.Slots.{Slots}
 use Rattle.nra_core.specs.Late.{at_least}
 use Rattle.nra_core.proofs.EndingLaws.{first_of_kept}
 use Rattle.nra_core.specs.LatePlaces.{IsLate, HasLeast}

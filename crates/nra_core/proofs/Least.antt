@@ -14,7 +14,7 @@ use Rattle.topk_theory.proofs.InOrder.{length-in_order}
 use Rattle.topk_theory.proofs.ThresholdLists.{length-map}
 use Rattle.topk_theory.proofs.Agreement.{seen_distinct}
 use Rattle.access_log.specs.Log.{Log}
-use Rattle.indexed_heap.specs.Slots.{Slots}
+use Rattle.containers.specs.Slots.{Slots}
 use Rattle.nra_core.specs.Late.{IsLeastLow}
 use Rattle.nra_core.proofs.Stop.{kth_low_is}
 use Rattle.nra_core.specs.declared.late.LateBounds.{LateBounds}

@@ -13,10 +13,10 @@ use Rattle.topk_theory.proofs.AgreementNames.{has, has_contains, has_not}
 use Rattle.topk_theory.proofs.Agreement.{seen_distinct, seen_objects_old, seen_objects_new, seen_objects_random}
 use Rattle.std.proofs.lemmas.List.Elements.{Contains-append_cases}
 use Rattle.access_log.proofs.RecordKept.{placed}
-use Rattle.indexed_heap.specs.Ranks.{rank_at}
-use Rattle.indexed_heap.specs.declared.slots.Entry.{Entry}
-use Rattle.indexed_heap.specs.Slots.{Slots, HasNoSlot, IsLeast, AreDistinctKeys}
-use Rattle.indexed_heap.proofs.Getting.{get_last, get_before, get_set_same, get_set_other}
+use Rattle.containers.specs.Ranks.{rank_at}
+use Rattle.containers.specs.declared.slots.Entry.{Entry}
+use Rattle.containers.specs.Slots.{Slots, HasNoSlot, IsLeast, AreDistinctKeys}
+use Rattle.containers.proofs.Getting.{get_last, get_before, get_set_same, get_set_other}
 use Rattle.nra_core.specs.Late.{AreApart, AreNextBounds, KeepsCandidates, with_one, exchanged}
 use Rattle.nra_core.proofs.Candidates.{NamesOutside, keeps_of_member, keeps_of_few, keeps_of_outside, keeps_of_known, keeps_of_exchange, keeps_same}
 use Rattle.nra_core.proofs.Members.{all_in}

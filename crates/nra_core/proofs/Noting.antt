@@ -11,8 +11,8 @@ use Rattle.topk_theory.specs.Transcript.{Agrees, object_of, seen_objects}
 use Rattle.topk_theory.specs.Bounds.{low, high}
 use Rattle.access_log.specs.Log.{Log, IsConsistent}
 use Rattle.access_log.proofs.RecordKept.{placed}
-use Rattle.indexed_heap.specs.declared.slots.Entry.{Entry}
-use Rattle.indexed_heap.specs.Slots.{Slots, HasNoSlot, IsAt, IsLeast, AreDistinctKeys, IsRenewed}
+use Rattle.containers.specs.declared.slots.Entry.{Entry}
+use Rattle.containers.specs.Slots.{Slots, HasNoSlot, IsAt, IsLeast, AreDistinctKeys, IsRenewed}
 use Rattle.nra_core.specs.Late.{AreNextBounds}
 use Rattle.nra_core.proofs.Renewed.{next_bounds}
 use Rattle.nra_core.specs.declared.late.LateBounds.{LateBounds}

@@ -10,10 +10,10 @@ use Rattle.std.proofs.lemmas.List.Folds.{list_any-append}
 use Rattle.std.proofs.lemmas.Option.{none-some, same_Some, slice_get_within}
 use Rattle.topk_theory.proofs.AgreementLists.{contains_nil, contains_cases, slice_get_contains, one_place}
 use Rattle.access_log.proofs.RecordKept.{placed, not_placed, place_of_absent}
-use Rattle.indexed_heap.specs.Ranks.{rank_at}
-use Rattle.indexed_heap.specs.declared.slots.Entry.{Entry}
-use Rattle.indexed_heap.specs.Slots.{HasNoSlot, AreDistinctKeys}
-use Rattle.indexed_heap.proofs.Getting.{get_last, get_before, get_set_same, get_set_other}
+use Rattle.containers.specs.Ranks.{rank_at}
+use Rattle.containers.specs.declared.slots.Entry.{Entry}
+use Rattle.containers.specs.Slots.{HasNoSlot, AreDistinctKeys}
+use Rattle.containers.proofs.Getting.{get_last, get_before, get_set_same, get_set_other}
 use Rattle.nra_core.specs.Late.{AreApart, with_one, without, exchanged}
 use Rattle.nra_core.proofs.SetCounts.{with_itself, with_other, without_itself, without_other}
 use Rattle.nra_core.proofs.Members.{in_exchanged}

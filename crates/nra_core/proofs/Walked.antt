@@ -10,10 +10,10 @@ use Rattle.topk_theory.specs.Transcript.{seen_objects}
 use Rattle.topk_theory.specs.Bounds.{low, high}
 use Rattle.topk_theory.proofs.Agreement.{seen_distinct}
 use Rattle.access_log.proofs.RecordKept.{placed}
-use Rattle.indexed_heap.specs.Ranks.{rank_at}
-use Rattle.indexed_heap.specs.declared.slots.Entry.{Entry}
-use Rattle.indexed_heap.specs.Slots.{Slots, HasNoSlot, AreDistinctKeys}
-use Rattle.indexed_heap.proofs.Getting.{get_set_same, get_set_other}
+use Rattle.containers.specs.Ranks.{rank_at}
+use Rattle.containers.specs.declared.slots.Entry.{Entry}
+use Rattle.containers.specs.Slots.{Slots, HasNoSlot, AreDistinctKeys}
+use Rattle.containers.proofs.Getting.{get_set_same, get_set_other}
 use Rattle.nra_core.specs.Late.{IsLeastLow, AreOthersWithin, without, exchanged}
 use Rattle.nra_core.proofs.Members.{exchange_least}
 use Rattle.nra_core.proofs.Candidates.{keeps_of_giving_up, keeps_of_tie, within_candidates, not_within_with_witness, keeps_same, least_same}

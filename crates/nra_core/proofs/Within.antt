@@ -11,10 +11,10 @@ use Rattle.topk_theory.specs.Transcript.{seen_objects}
 use Rattle.topk_theory.specs.Bounds.{low, high, threshold}
 use Rattle.topk_theory.proofs.Agreement.{seen_distinct}
 use Rattle.access_log.specs.Log.{Log}
-use Rattle.indexed_heap.specs.Ranks.{rank_at}
-use Rattle.indexed_heap.specs.declared.slots.Entry.{Entry}
-use Rattle.indexed_heap.specs.Slots.{Slots, HasNoSlot, AreDistinctKeys}
-use Rattle.indexed_heap.proofs.SlotChanges.{no_greater}
+use Rattle.containers.specs.Ranks.{rank_at}
+use Rattle.containers.specs.declared.slots.Entry.{Entry}
+use Rattle.containers.specs.Slots.{Slots, HasNoSlot, AreDistinctKeys}
+use Rattle.containers.proofs.SlotChanges.{no_greater}
 use Rattle.nra_core.specs.Late.{IsLeastLow, AreOthersWithin}
 use Rattle.nra_core.specs.Quiet.{is_quiet_seen}
 use Rattle.nra_core.proofs.Candidates.{within_same}

@@ -1,9 +1,9 @@
 -- What is kept of the seen objects by their places, and what it means of the objects.
 use Rattle.std.specs.Prelude.{◌≡◌, ◌<◌, ◌≤◌, ◌⊎◌, ◌==◌, ℕ, Bool, false, Option, Some, None, List, [], ◌∷◌, ◌++◌, length, min, is_some, nat_eq, position, slice_get, Contains}
 use Rattle.std.specs.List.{list_any}
-use Rattle.indexed_heap.specs.Ranks.{rank_at}
-use Rattle.indexed_heap.specs.declared.slots.Entry.{Entry}
-use Rattle.indexed_heap.specs.Slots.{Slots, IsLeast, AreDistinctKeys}
+use Rattle.containers.specs.Ranks.{rank_at}
+use Rattle.containers.specs.declared.slots.Entry.{Entry}
+use Rattle.containers.specs.Slots.{Slots, IsLeast, AreDistinctKeys}
 use Rattle.topk_theory.specs.declared.access.Access.{Access}
 use Rattle.topk_theory.specs.Transcript.{object_of, seen_objects}
 use Rattle.topk_theory.specs.Bounds.{low, high, threshold}

@@ -11,7 +11,7 @@ ghost use Rattle.nra_core.specs.LatePlaces.{KeepsLate};
 
 use super::late::{LateBounds, least_low};
 use access_log::{Item, Transcript};
-use best_k::put_in_order;
+use machine_base::put_in_order;
 use monotone_fn::Expr;
 
 /// Puts the seen objects whose low is no less than the bound into `items`, which is empty and has room for all seen

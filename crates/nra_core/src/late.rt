@@ -11,10 +11,10 @@ ghost use Rattle.nra_core.specs.LatePlaces.{IsLateAfter, KeepsLate, WasLate, Has
 
 use super::Memory;
 use access_log::Transcript;
-use indexed_heap::{IndexedHeap, RankedSlots};
-use limits::MAX_OBJECTS;
+use containers::{IndexedHeap, RankedSlots};
 use monotone_fn::Expr;
 use std::alloc::Global;
+use topk_base::MAX_OBJECTS;
 
 /// The seen objects of a machine, by their places in the order of first sight: the k with the greatest lows, ties as
 /// they come, and the candidates. Whoever is neither is given up for good.

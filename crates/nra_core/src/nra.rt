@@ -10,12 +10,12 @@ ghost use Rattle.nra_core.specs.Place.{place_after};
 use super::late::LateBounds;
 use super::place::Place;
 use access_log::{Access, Item, Items, Transcript};
-use limits::MAX_OBJECTS;
 use machine_base::{Answer, Base, CoreFault, Memory, Need};
 use monotone_fn::{Costs, Expr};
 use ranked_list::Row;
 use std::alloc::Global;
 use std::marker::Model;
+use topk_base::MAX_OBJECTS;
 
 /// The algorithm without random access on one query. It says which row it needs next, and is fed that
 /// row. Contracts see it as a `MachineState`.

@@ -12,9 +12,9 @@ ghost use Rattle.nra_core.specs.LatePlaces.{IsLate, KeepsLate, is_first, AreSeen
 
 use super::late::{LateBounds, least_low};
 use access_log::Transcript;
-use indexed_heap::{IndexedHeap, RankedSlots};
-use limits::MAX_OBJECTS;
+use containers::{IndexedHeap, RankedSlots};
 use monotone_fn::Expr;
+use topk_base::MAX_OBJECTS;
 
 /// The value at the bottoms of the lists, which is the high of every object that wasn't seen.
 fn threshold(expr: &Expr, transcript: &Transcript) -> u64

@@ -1,7 +1,7 @@
 -- Loops over the rows of a page.
 use Rattle.std.proofs.Common.{◌≡◌, ◌<◌, ◌≤◌, ℕ, suc, ◌+◌, List, [], ◌∷◌, ◌++◌, map, length, get_or, drop, Option, Some, None, option_map, option_and_then, refl, sym, ap, subst, ◌∙◌, append_assoc, append-nil, rules, true, false, nat_le, drop-cons, add-one}
 use Rattle.std.proofs.lemmas.List.{map-append, drop_all}
-use Rattle.limits.specs.declared.TheConstants.{MAX_PAGE}
+use Rattle.topk_base.specs.declared.TheConstants.{MAX_PAGE}
 use Rattle.serde_json.specs.Events.{items_len}
 use Rattle.serde_json.proofs.Views.{items_len-items_view}
 use Rattle.ranked_list.specs.declared.row.Row.{Row}

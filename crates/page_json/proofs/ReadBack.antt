@@ -1,6 +1,6 @@
 -- What is read of the JSON values that are written.
 use Rattle.std.proofs.Common.{◌≡◌, ◌≤◌, ℕ, zero, suc, List, [], ◌∷◌, map, length, Option, Some, None, option_and_then, codes, Result, Ok, Err, IfOk, IsUtf8, true, nat_le, refl, sym, ap, subst, ◌∙◌, arith, rules}
-use Rattle.limits.specs.declared.TheConstants.{MAX_PAGE}
+use Rattle.topk_base.specs.declared.TheConstants.{MAX_PAGE}
 use Rattle.std.specs.Global.{Vec}
 use Rattle.ranked_list.specs.declared.row.Row.{Row}
 use Rattle.serde_json.specs.Data.{Data, depth, items_depth}

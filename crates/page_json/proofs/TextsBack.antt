@@ -13,7 +13,7 @@ use Rattle.json.proofs.Printed.Utf8.{IsUtf8-are_ascii}
 use Rattle.json.proofs.Printed.Decimals.{IsNumber-decimal}
 use Rattle.json.proofs.Printed.Tokens.{tokens-print}
 use Rattle.json.proofs.Printed.Trees.{value-json_tokens, ArePrintable-json_tokens}
-use Rattle.limits.specs.declared.TheConstants.{MAX_PAGE}
+use Rattle.topk_base.specs.declared.TheConstants.{MAX_PAGE}
 use Rattle.ranked_list.specs.declared.row.Row.{Row}
 use Rattle.serde_json.specs.Data.{Data, number, array}
 use Rattle.serde_json.specs.Read.{read, of_json, of_items, max_depth}

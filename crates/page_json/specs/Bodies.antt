@@ -1,6 +1,6 @@
 -- What the JSON bodies of a list's replies say, by the grammar and the look-ups of `serde_json`.
 use Rattle.std.specs.Prelude.{◌≡◌, ◌<◌, ◌^◌, ℕ, List, [], ◌∷◌, codes, nat_lt, nat_le, if◌then◌else◌, Option, None, Some, option_map, option_and_then, IsUtf8}
-use Rattle.limits.specs.declared.TheConstants.{MAX_PAGE}
+use Rattle.topk_base.specs.declared.TheConstants.{MAX_PAGE}
 use Rattle.ranked_list.specs.declared.row.Row.{Row}
 use Rattle.serde_json.specs.Data.{Data, null, Items, no_items, item}
 use Rattle.serde_json.specs.Events.{items_len}

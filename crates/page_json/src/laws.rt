@@ -1,7 +1,7 @@
 //! Laws of the texts of bodies: what is written reads back, and a body says one thing.
 
 ghost use Rattle.std.specs.Prelude.{◌≡◌, ◌<◌, ◌≤◌, ◌+◌, ◌*◌, ◌^◌, ℕ, List, Option, IfSome, All, length};
-ghost use Rattle.limits.specs.declared.TheConstants.{MAX_PAGE};
+ghost use Rattle.topk_base.specs.declared.TheConstants.{MAX_PAGE};
 ghost use Rattle.ranked_list.specs.declared.row.Row.{Row};
 ghost use Rattle.page_json.specs.declared.object.Versioned.{Versioned};
 ghost use Rattle.page_json.specs.Bodies.{IsSizeBody, IsPageBody, IsGradeBody, Fits};

@@ -13,7 +13,7 @@ pub use grade::{read_grade, write_grade};
 pub use laws::{
     a_body_says_one_thing, bodies_are_short, grades_read_back, pages_read_back, sizes_read_back,
 };
-pub use limits::Memory;
 pub use object::Versioned;
 pub use page::{read_page, write_page};
 pub use size::{read_size, write_size};
+pub use topk_base::Memory;

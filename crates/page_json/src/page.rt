@@ -1,7 +1,7 @@
 //! The body that says a page of a list's rows.
 
 ghost use Rattle.std.specs.Prelude.{◌≡◌, ◌≤◌, List, Some, None, Err, IfOk, OnOk, length, codes, option_and_then};
-ghost use Rattle.limits.specs.declared.TheConstants.{MAX_PAGE};
+ghost use Rattle.topk_base.specs.declared.TheConstants.{MAX_PAGE};
 ghost use Rattle.ranked_list.specs.declared.row.Row.{Row};
 ghost use Rattle.serde_json.specs.Find.{get};
 ghost use Rattle.serde_json.specs.View.{view, items_view};
@@ -16,10 +16,10 @@ use super::Memory;
 use super::fault::JsonFault;
 use super::grade::number_in;
 use super::object::{Versioned, value_of, version_in, write_object};
-use limits::MAX_PAGE;
 use ranked_list::Row;
 use serde_json::{Value, json};
 use std::alloc::Global;
+use topk_base::MAX_PAGE;
 
 /// The body that says rows of a list at a version, each as its object and its grade:
 /// `{"rows":[[1,900],[2,800]],"version":7}`, and without `version` at version 0.

@@ -4,7 +4,7 @@ use Rattle.std.specs.Prelude.{if◌then◌else◌}
 use Rattle.std.proofs.lemmas.Bool.{false≢true}
 use Rattle.std.proofs.lemmas.List.{get_or-map, length-map, take_all}
 use Rattle.ranked_list.specs.declared.row.Row.{Row}
-use Rattle.limits.specs.declared.TheConstants.{MAX_OBJECTS}
+use Rattle.topk_base.specs.declared.TheConstants.{MAX_OBJECTS}
 use Rattle.source_api.specs.declared.counts.Counts.{Counts}
 use Rattle.fetcher.specs.declared.slot.Slot.{Slot}
 use Rattle.catalog_open.specs.Slots.{of_slot, sources_in}
@@ -23,10 +23,10 @@ use Rattle.query_server.specs.Homes.{AreHomes, home_at, home_of}
 use Rattle.query_server.specs.Reopening.{IsAtHand}
 use Rattle.query_server.specs.declared.server.Served.{Served}
 use Rattle.query_server.specs.declared.server.Served.TheVariants.{Ended, PortFault as AtFault, Memory as NoMemory}
-use Rattle.call_ends.specs.Shelves.{Shelf}
+use Rattle.command_line.specs.Shelves.{Shelf}
 use Rattle.port_calls.specs.Ports.{Ports}
 use Rattle.port_calls.specs.Opening.{BorrowsSome, BorrowsAll, IsOneOf, entry_of, every, OpensAll}
-use Rattle.command_words.specs.declared.node.Listening.{Listening}
+use Rattle.command_line.specs.declared.node.Listening.{Listening}
 use Rattle.port_calls.specs.ServeEnds.{EndsLists, ServesPort}
 
 -- each entry of a catalog is marked, and nothing else

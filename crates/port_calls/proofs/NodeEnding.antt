@@ -13,11 +13,11 @@ use Rattle.catalog_text.specs.Catalog.{Listed as Entry}
 use Rattle.catalog_text.specs.Judging.{Judges}
 use Rattle.catalog_text.specs.declared.catalog.CatalogFault.{CatalogFault}
 use Rattle.catalog_text.specs.declared.catalog.CatalogFault.TheVariants.{CatalogLine, SameName, Memory as NoMemory}
-use Rattle.command_words.specs.declared.node.NodeOptions.{NodeOptions}
-use Rattle.call_ends.specs.Calls.{Call}
-use Rattle.call_ends.specs.Ends.{Says}
-use Rattle.call_ends.specs.declared.status.Status.{Status}
-use Rattle.call_ends.specs.declared.status.Status.TheVariants.{Done, Partial, BadCatalog, Memory, PortFault, OpenFault, WriteFault, BadWords, ReadFault, LongInput, BadInput}
+use Rattle.command_line.specs.declared.node.NodeOptions.{NodeOptions}
+use Rattle.command_line.specs.Calls.{Call}
+use Rattle.command_line.specs.Ends.{Says}
+use Rattle.command_line.specs.declared.status.Status.{Status}
+use Rattle.command_line.specs.declared.status.Status.TheVariants.{Done, Partial, BadCatalog, Memory, PortFault, OpenFault, WriteFault, BadWords, ReadFault, LongInput, BadInput}
 use Rattle.catalog_run.specs.Faults.{SaysFault}
 use Rattle.catalog_run.specs.Running.{catalog_refused_text}
 use Rattle.source_node.specs.Serving.{Seen}

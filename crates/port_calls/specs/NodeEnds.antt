@@ -3,17 +3,17 @@ use Rattle.std.specs.Prelude.{◌≡◌, ◌⊎◌, ℕ, List, Some, None, IfSom
 use Rattle.tk_io.specs.Faults.{Rose}
 use Rattle.csv_records.specs.Records.{records_of}
 use Rattle.catalog_text.specs.Catalog.{Listed as Entry, IsCatalog}
-use Rattle.command_words.specs.declared.node.NodeOptions.{NodeOptions}
+use Rattle.command_line.specs.declared.node.NodeOptions.{NodeOptions}
 use Rattle.source_api.specs.Counting.{no_counts}
 use Rattle.source_api.specs.Places.{CountsTakes, SameElsewhere, counts_taken, with_source}
 use Rattle.source_node.specs.Serving.{Seen}
 use Rattle.source_node.specs.ServingLinks.{ServedAll, ServedSome}
 use Rattle.source_node.specs.declared.serving.Served.{Served}
 use Rattle.source_node.specs.declared.serving.Served.TheVariants.{Ended, PortFault as AtFault}
-use Rattle.call_ends.specs.Calls.{Call, KeepsShelf, WroteNothing, WroteWhole, WroteFront}
-use Rattle.call_ends.specs.Shelves.{Shelf, TellsTheSame, GivesText, TextFailed, TextRefused}
-use Rattle.call_ends.specs.declared.status.Status.{Status}
-use Rattle.call_ends.specs.declared.status.Status.TheVariants.{Done, Partial, BadCatalog, WriteFault, OpenFault, PortFault, Memory}
+use Rattle.command_line.specs.Calls.{Call, KeepsShelf, WroteNothing, WroteWhole, WroteFront}
+use Rattle.command_line.specs.Shelves.{Shelf, TellsTheSame, GivesText, TextFailed, TextRefused}
+use Rattle.command_line.specs.declared.status.Status.{Status}
+use Rattle.command_line.specs.declared.status.Status.TheVariants.{Done, Partial, BadCatalog, WriteFault, OpenFault, PortFault, Memory}
 use Rattle.catalog_run.specs.Running.{RefusesCatalog}
 use Rattle.catalog_run.specs.RunEnds.{from_shelf}
 use Rattle.port_calls.specs.Named.{place_named}

@@ -3,10 +3,10 @@ use Rattle.std.specs.Prelude.{◌≡◌, ℕ, List, [], ◌∷◌, codes}
 use Rattle.std.specs.List.{concat}
 use Rattle.std.specs.Fmt.{decimal}
 use Rattle.std.specs.Io.KnownBytes.{Keeps}
-use Rattle.call_ends.specs.Calls.{Output}
-use Rattle.call_ends.specs.Ends.{Says}
-use Rattle.call_ends.specs.declared.status.Status.{Status}
-use Rattle.call_ends.specs.declared.status.Status.TheVariants.{Done, PortFault as AtFault}
+use Rattle.command_line.specs.Calls.{Output}
+use Rattle.command_line.specs.Ends.{Says}
+use Rattle.command_line.specs.declared.status.Status.{Status}
+use Rattle.command_line.specs.declared.status.Status.TheVariants.{Done, PortFault as AtFault}
 use Rattle.source_node.specs.declared.serving.Served.{Served}
 use Rattle.source_node.specs.declared.serving.Served.TheVariants.{Ended, PortFault}
 

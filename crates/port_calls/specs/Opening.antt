@@ -1,13 +1,13 @@
 -- The lists of a catalog all of whose sources were opened.
 use Rattle.std.specs.Prelude.{◌≡◌, ◌<◌, ℕ, Bool, true, List, length, map, nat_le, replicate, if◌then◌else◌}
-use Rattle.limits.specs.declared.TheConstants.{MAX_OBJECTS}
+use Rattle.topk_base.specs.declared.TheConstants.{MAX_OBJECTS}
 use Rattle.catalog_text.specs.Catalog.{Listed as Entry}
 use Rattle.catalog_open.specs.declared.opened.Opening.{Opening}
 use Rattle.catalog_open.specs.declared.opened.Opening.TheVariants.{Closed, Open}
 use Rattle.catalog_open.specs.Openings.{Counted, Used, Moves, PutsBack, Sources, AreOpened, KeepsOthers, AsksEachAtMostOnce, AsksEachOnce}
 use Rattle.query_server.specs.OpenedEntry.{OpenedEntry}
 use Rattle.query_server.specs.OpenedEntry.TheVariants.{Opened, NotOpened, TooLarge}
-use Rattle.call_ends.specs.Shelves.{Shelf, TellsTheSame}
+use Rattle.command_line.specs.Shelves.{Shelf, TellsTheSame}
 
 -- what becomes of a list by what became of its source: one that states more objects than a list may have is too large
 abbrev pub entry_of : Opening → OpenedEntry

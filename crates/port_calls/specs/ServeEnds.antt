@@ -3,18 +3,18 @@ use Rattle.std.specs.Prelude.{◌≡◌, ◌⊎◌, ℕ, List}
 use Rattle.tk_io.specs.Faults.{Rose}
 use Rattle.csv_records.specs.Records.{records_of}
 use Rattle.catalog_text.specs.Catalog.{Listed as Entry, IsCatalog}
-use Rattle.command_words.specs.declared.node.Listening.{Listening}
-use Rattle.command_words.specs.declared.serving.ServeOptions.{ServeOptions}
+use Rattle.command_line.specs.declared.node.Listening.{Listening}
+use Rattle.command_line.specs.declared.serving.ServeOptions.{ServeOptions}
 use Rattle.query_server.specs.Accepting.{TookAll, TookSome}
 use Rattle.query_server.specs.Serving.{AsksForLinks}
 use Rattle.query_server.specs.declared.server.Served.{Served}
 use Rattle.query_server.specs.declared.server.Served.TheVariants.{Ended, PortFault as AtFault, Memory as NoMemory}
 use Rattle.std.specs.Io.KnownBytes.{Keeps}
-use Rattle.call_ends.specs.Ends.{Says}
-use Rattle.call_ends.specs.Calls.{Call, Output, WroteNothing, WroteWhole, WroteFront}
-use Rattle.call_ends.specs.Shelves.{Shelf, GivesText, TextFailed, TextRefused}
-use Rattle.call_ends.specs.declared.status.Status.{Status}
-use Rattle.call_ends.specs.declared.status.Status.TheVariants.{Done, BadCatalog, WriteFault, OpenFault, PortFault, Memory}
+use Rattle.command_line.specs.Ends.{Says}
+use Rattle.command_line.specs.Calls.{Call, Output, WroteNothing, WroteWhole, WroteFront}
+use Rattle.command_line.specs.Shelves.{Shelf, GivesText, TextFailed, TextRefused}
+use Rattle.command_line.specs.declared.status.Status.{Status}
+use Rattle.command_line.specs.declared.status.Status.TheVariants.{Done, BadCatalog, WriteFault, OpenFault, PortFault, Memory}
 use Rattle.catalog_run.specs.RunEnds.{from_shelf}
 use Rattle.port_calls.specs.NodeEnds.{NoCatalog, AskedNothing}
 use Rattle.port_calls.specs.NodeTexts.{served_text}

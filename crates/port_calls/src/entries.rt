@@ -5,9 +5,9 @@ ghost use Rattle.port_calls.specs.Opening.{entry_of, every};
 
 use catalog_open::Opening;
 use catalog_text::Catalog;
-use limits::{MAX_OBJECTS, Memory};
 use query_server::OpenedEntry;
 use std::alloc::Global;
+use topk_base::{MAX_OBJECTS, Memory};
 
 /// What becomes of a list of whose source this became.
 fn entry_of(opening: Opening) -> OpenedEntry

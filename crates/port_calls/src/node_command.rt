@@ -3,17 +3,16 @@
 ghost use Rattle.std.specs.Prelude.{◌≡◌, ◌≤◌, ℕ, List, option_map};
 ghost use Rattle.csv_records.specs.Records.{records_of};
 ghost use Rattle.catalog_text.specs.Catalog.{IsCatalog};
-ghost use Rattle.call_ends.specs.Calls.{Input, output_as, shelf_as, outside_of, call_at};
+ghost use Rattle.command_line.specs.Calls.{Input, output_as, shelf_as, outside_of, call_at};
 ghost use Rattle.port_calls.specs.Named.{place_named};
 ghost use Rattle.port_calls.specs.Ports.{ports_of};
 ghost use Rattle.port_calls.specs.NodeEnds.{EndsNode, EndsOverCatalog};
 
 use super::node_serving::serve_place;
 use super::said::refuse_name;
-use call_ends::Status;
 use catalog_run::refuse;
 use catalog_text::{Catalog, read_catalog};
-use command_words::NodeOptions;
+use command_line::{NodeOptions, Status};
 use source_api::{FailKind, Shelf, Trouble};
 use source_node::ListRoutes;
 use std::alloc::Global;

@@ -3,13 +3,12 @@
 ghost use Rattle.std.specs.Prelude.{◌≡◌, ◌≤◌, ℕ, List};
 ghost use Rattle.source_api.specs.Counting.{NoneFell};
 ghost use Rattle.source_node.specs.Serving.{seen};
-ghost use Rattle.call_ends.specs.Calls.{Input, output_as, shelf_as, outside_of, call_at};
+ghost use Rattle.command_line.specs.Calls.{Input, output_as, shelf_as, outside_of, call_at};
 ghost use Rattle.port_calls.specs.Ports.{ports_of};
 ghost use Rattle.port_calls.specs.NodeEnds.{EndsAtPlace, ServesAt};
 
 use super::said::end_served;
-use call_ends::Status;
-use command_words::NodeOptions;
+use command_line::{NodeOptions, Status};
 use source_api::{FailKind, Shelf, Source, Trouble};
 use source_node::{ListRoutes, Served, serve_links};
 use std::alloc::Global;

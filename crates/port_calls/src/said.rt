@@ -1,11 +1,11 @@
 //! What a node writes, and how many links it says were served.
 
 ghost use Rattle.std.specs.Prelude.{◌≤◌};
-ghost use Rattle.call_ends.specs.Calls.{output_as};
-ghost use Rattle.call_ends.specs.Ends.{Says};
+ghost use Rattle.command_line.specs.Calls.{output_as};
+ghost use Rattle.command_line.specs.Ends.{Says};
 ghost use Rattle.port_calls.specs.NodeTexts.{SaysServed, served_text, unlisted_text};
 
-use call_ends::{Status, ended};
+use command_line::{Status, ended};
 use source_node::Served;
 use tk_io::{Put, Sink, Writer};
 

@@ -1,17 +1,16 @@
 //! The command `serve`.
 
 ghost use Rattle.std.specs.Prelude.{◌≤◌, ℕ, List};
-ghost use Rattle.limits.specs.Ranges.{AreSettings};
-ghost use Rattle.call_ends.specs.Calls.{Input, output_as, shelf_as, outside_of, call_at};
+ghost use Rattle.topk_base.specs.Ranges.{AreSettings};
+ghost use Rattle.command_line.specs.Calls.{Input, output_as, shelf_as, outside_of, call_at};
 ghost use Rattle.port_calls.specs.Ports.{ports_of};
 ghost use Rattle.port_calls.specs.ServeEnds.{EndsServe, SaysServeEnded};
 
 use super::said::say_served;
 use super::server_serving::serve_lists;
-use call_ends::Status;
 use catalog_run::refuse;
 use catalog_text::{Catalog, read_catalog};
-use command_words::ServeOptions;
+use command_line::{ServeOptions, Status};
 use query_server::Served;
 use source_api::{FailKind, Shelf, Trouble};
 use std::alloc::Global;

@@ -1,14 +1,14 @@
 //! The lists of a catalog, served at a port.
 
 ghost use Rattle.std.specs.Prelude.{◌≡◌, ◌≤◌, ◌<◌, ◌^◌, [], All, IfOk, OnOk, length, map};
-ghost use Rattle.limits.specs.Ranges.{AreSettings};
+ghost use Rattle.topk_base.specs.Ranges.{AreSettings};
 ghost use Rattle.source_api.specs.Places.{SameAtEach};
 ghost use Rattle.catalog_open.specs.Slots.{IsIdle, sources_in};
 ghost use Rattle.catalog_open.specs.Openings.{AreOpened, AsksEachAtMostOnce, AsksEachOnce, IsKnownAt};
 ghost use Rattle.query_server.specs.Entries.{AreEntriesOf};
 ghost use Rattle.query_server.specs.Homes.{AreHomes, home_of};
 ghost use Rattle.query_server.specs.Reopening.{IsAtHand};
-ghost use Rattle.call_ends.specs.Calls.{shelf_as};
+ghost use Rattle.command_line.specs.Calls.{shelf_as};
 ghost use Rattle.port_calls.specs.Ports.{ports_of};
 ghost use Rattle.port_calls.specs.Opening.{IsOneOf, entry_of, every};
 ghost use Rattle.port_calls.specs.ServeEnds.{EndsLists, ServesPort};
@@ -16,15 +16,15 @@ ghost use Rattle.port_calls.specs.ServeEnds.{EndsLists, ServesPort};
 use super::entries::{entries_of, mark_every};
 use catalog_open::{Opened, open_wanted, put_back_all};
 use catalog_text::Catalog;
-use command_words::ServeOptions;
+use command_line::ServeOptions;
 use fetcher::Slot;
-use limits::Memory;
 use query_server::{Opened as Lists, OpenedEntry, Served, serve_all};
 use source_api::{Shelf, Source};
 use std::alloc::Global;
 use std::sync::Wait;
 use std::thread::Threads;
 use tk_io::Port;
+use topk_base::Memory;
 
 /// Takes the source of each list of a catalog, listens at the port, serves its links over the lists, and puts the sources back, however that ends.
 pub(crate) fn serve_lists<W: Threads + Wait + Sync, H: Shelf, P: Port>(

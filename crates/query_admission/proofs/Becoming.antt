@@ -7,8 +7,8 @@ use Rattle.ranked_list.specs.declared.item.Item.{Item}
 use Rattle.monotone_fn.specs.Value.{value}
 use Rattle.topk_theory.specs.Asked.{Asked}
 use Rattle.topk_theory.specs.Threshold.{item_objects}
-use Rattle.theta_theory.specs.Within.{Factor}
-use Rattle.guarantee.specs.Guarantee.{guarantee_by}
+use Rattle.algorithm_theory.specs.Within.{Factor}
+use Rattle.cert_text.specs.Guarantee.{guarantee_by}
 use Rattle.monotone_fn.specs.declared.costs.Costs.{Costs}
 use Rattle.access_log.specs.Log.{AgreesWith}
 use Rattle.machine_base.specs.declared.answer.Answer.{Answer}

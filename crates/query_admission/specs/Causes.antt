@@ -14,7 +14,7 @@ use Rattle.query_core.specs.Algorithms.{asks_grades}
 use Rattle.query_core.specs.OneAnswer.{IsOverRoomWith}
 use Rattle.query_admission.specs.View.{View, AreListed, AreTold, is_closed, is_large, differs, lacks_random, unread_list, method_over, size_stated, count_of}
 use Rattle.query_admission.specs.declared.lists.Listed.{Listed}
-use Rattle.limits.specs.declared.TheConstants.{MAX_QUERIES}
+use Rattle.topk_base.specs.declared.TheConstants.{MAX_QUERIES}
 
 -- a query line: the lists that it may name, its number in the input, from 1, and its bytes
 pub record QueryLine : Type 0 where

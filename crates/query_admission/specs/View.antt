@@ -7,7 +7,7 @@ use Rattle.query_text.specs.declared.algorithm.Algorithm.{Algorithm}
 use Rattle.query_text.specs.declared.algorithm.Algorithm.TheVariants.{Taz}
 use Rattle.query_core.specs.Methods.{Method, method_with}
 use Rattle.query_admission.specs.declared.lists.Listed.{Listed}
-use Rattle.limits.specs.declared.TheConstants.{MAX_OBJECTS}
+use Rattle.topk_base.specs.declared.TheConstants.{MAX_OBJECTS}
 
 -- the most objects of a list that a query may name
 abbrev pub most_objects : ℕ

@@ -14,10 +14,10 @@ use super::reading::{ReadLine, read_line};
 use super::screen::screen;
 use super::seek::{Sought, seek};
 use cert_text::Refusal;
-use limits::MAX_LISTS;
 use query_core::Ready;
 use query_text::Query;
 use std::alloc::Global;
+use topk_base::MAX_LISTS;
 
 /// What a query comes to over lists: ready with its count, the numbers of its sources, the versions of its lists and
 /// whether each offers sorted access, or refused.

@@ -11,8 +11,8 @@ mod seek;
 
 pub use admission::{admit, admit_read};
 pub use admitted::Admitted;
-pub use limits::Memory;
 pub use line_outcome::LineOutcome;
 pub use lists::{Listed, Lists};
 pub use query_core::Ready;
 pub use reading::{ReadLine, read_line};
+pub use topk_base::Memory;

@@ -6,9 +6,9 @@ ghost use Rattle.query_admission.specs.Admission.{IsReadAs};
 
 use super::Memory;
 use cert_text::Refusal;
-use limits::MAX_QUERIES;
 use query_text::{Query, QueryFault, read};
 use std::alloc::Global;
+use topk_base::MAX_QUERIES;
 
 /// What a query line comes to before its lists are looked at.
 #[derive(Drop)]

@@ -10,9 +10,9 @@ ghost use Rattle.query_admission.specs.Screening.{Decides, Screens};
 
 use super::lists::Listed;
 use cert_text::Refusal;
-use limits::{MAX_LISTS, MAX_OBJECTS};
 use query_core::asks_grades;
 use query_text::{Algorithm, Query};
+use topk_base::{MAX_LISTS, MAX_OBJECTS};
 
 /// Whether a list states more objects than a list may have.
 fn is_large(list: &Listed) -> bool

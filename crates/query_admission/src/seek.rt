@@ -6,9 +6,9 @@ ghost use Rattle.query_admission.specs.declared.seek.Sought.TheVariants.{Known, 
 
 use super::Memory;
 use super::lists::{Listed, Lists};
-use limits::MAX_LISTS;
 use query_text::Names;
 use std::alloc::Global;
+use topk_base::MAX_LISTS;
 
 /// What is found of the lists of a query.
 #[derive(Drop)]

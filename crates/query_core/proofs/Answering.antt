@@ -13,8 +13,8 @@ use Rattle.topk_theory.specs.Aggregate.{objects_of}
 use Rattle.topk_theory.specs.Asked.{Asked}
 use Rattle.topk_theory.specs.Threshold.{IsAsked, item_objects}
 use Rattle.topk_theory.specs.declared.access.Access.{Access}
-use Rattle.theta_theory.specs.Within.{Factor}
-use Rattle.guarantee.specs.Guarantee.{guarantee_by}
+use Rattle.algorithm_theory.specs.Within.{Factor}
+use Rattle.cert_text.specs.Guarantee.{guarantee_by}
 use Rattle.topk_theory.specs.Transcript.{Told, whole, Agrees, seen_objects}
 use Rattle.topk_theory.proofs.Agreement.{agrees_none}
 use Rattle.topk_theory.proofs.AgreementLists.{member_of_all, contains_here, contains_nil}

@@ -5,16 +5,16 @@ use Rattle.ranked_list.specs.declared.need.Need.TheVariants.{Done}
 use Rattle.monotone_fn.specs.Value.{value}
 use Rattle.topk_theory.specs.declared.access.Access.{Access}
 use Rattle.topk_theory.specs.Threshold.{item_objects}
-use Rattle.theta_theory.specs.Guarantee.{early_guarantee}
-use Rattle.theta_theory.specs.Within.{IsWithin}
+use Rattle.algorithm_theory.specs.Guarantee.{early_guarantee}
+use Rattle.algorithm_theory.specs.Within.{IsWithin}
 use Rattle.machine_base.specs.declared.answer.Answer.{Answer}
 use Rattle.machine_base.specs.Machine.{MachineState, asked_of, IsSameLog, MakesRun, IsAnswerBy}
 use Rattle.ta_core.specs.declared.halting.Halting.{Halting}
 use Rattle.ta_core.specs.declared.halting.Halting.TheVariants as halts
 use Rattle.ta_core.specs.Machine.{ThresholdState, IsAnswerHalting, MakesItsRun as MakesHaltingRun, IsAnswer as IsHaltingAnswer}
-use Rattle.zlist_core.specs.Machine.{RestrictedState, MakesItsRun, IsAnswer}
+use Rattle.restricted_core.specs.Machine.{RestrictedState, MakesItsRun, IsAnswer}
 use Rattle.query_text.specs.declared.algorithm.Algorithm.TheVariants.{Ta, Theta, Early}
-use Rattle.guarantee.specs.Guarantee.{guarantee_by}
+use Rattle.cert_text.specs.Guarantee.{guarantee_by}
 use Rattle.query_core.specs.declared.machine.Machine.{Machine}
 use Rattle.query_core.specs.declared.machine.Machine.TheVariants as machines
 use Rattle.query_core.specs.Methods.{Method, method_with, run_with, items_with, IsGoodBy, FixesBy, AnswersWith}

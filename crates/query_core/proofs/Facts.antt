@@ -9,7 +9,7 @@ use Rattle.topk_theory.specs.Transcript.{Agrees, IsTame, seen_objects, named_obj
 use Rattle.topk_theory.specs.Bounds.{bounded}
 use Rattle.topk_theory.specs.Consistent.{SomeAgrees}
 use Rattle.topk_theory.specs.Threshold.{IsAsked, item_objects}
-use Rattle.optimal_law.specs.Optimal.{IsAlwaysRun}
+use Rattle.algorithm_theory.specs.Optimal.{IsAlwaysRun}
 use Rattle.query_core.specs.Methods.{Method, run_with, items_with, IsNearWith}
 use Rattle.query_core.specs.OneAnswer.{HasTrueBounds}
 

@@ -5,9 +5,9 @@ use Rattle.ranked_list.specs.declared.item.Item.{Item}
 use Rattle.topk_theory.specs.Threshold.{scored}
 use Rattle.topk_theory.proofs.AgreementLists.{member_of_all}
 use Rattle.topk_theory.proofs.ThresholdTop.{scored_member}
-use Rattle.fa_theory.specs.Fagin.{fa_seen, fa_answer}
-use Rattle.fa_theory.proofs.Runs.{fa_run_agrees, fa_run_tame, always_no_shallower}
-use Rattle.fa_theory.proofs.Top.{fa_first, fa_sees_answer}
+use Rattle.algorithm_theory.specs.Fagin.{fa_seen, fa_answer}
+use Rattle.algorithm_theory.proofs.FaginRuns.{fa_run_agrees, fa_run_tame, always_no_shallower}
+use Rattle.algorithm_theory.proofs.FaginTop.{fa_first, fa_sees_answer}
 use Rattle.query_text.specs.declared.algorithm.Algorithm.TheVariants.{Fa}
 use Rattle.query_core.proofs.Facts.{AreFacts}
 use Rattle.query_core.proofs.Lengths.{fa_short}

@@ -22,9 +22,9 @@ use Rattle.topk_theory.specs.Aggregate.{objects_of}
 use Rattle.topk_theory.proofs.Agreement.{objects_of_count}
 use Rattle.topk_theory.proofs.ThresholdDepth.{least_from-end}
 use Rattle.topk_theory.proofs.ThresholdLists.{filter_fits}
-use Rattle.optimal_law.proofs.Costs.{new_few}
-use Rattle.fa_theory.specs.Fagin.{fa_run}
-use Rattle.fa_theory.proofs.Runs.{fa_run_long}
+use Rattle.algorithm_theory.proofs.Costs.{new_few}
+use Rattle.algorithm_theory.specs.Fagin.{fa_run}
+use Rattle.algorithm_theory.proofs.FaginRuns.{fa_run_long}
 
 sorted_long : (list depth : ℕ) (D : List (List Row)) → length (sorted_block list depth D) ≡ length D
 sorted_long list depth [] = refl

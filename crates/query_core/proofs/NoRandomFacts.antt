@@ -16,7 +16,7 @@ use Rattle.topk_theory.proofs.NoRandomRun.{run_random}
 use Rattle.topk_theory.proofs.NoRandomLaws.{items_distinct, run_agrees, nra_depth_is_least}
 use Rattle.topk_theory.proofs.NoRandomTop.{object_of_seen}
 use Rattle.topk_theory.proofs.ThresholdRun.{contains_filter_map}
-use Rattle.optimal_law.proofs.Runs.{nra_near_shallowest}
+use Rattle.algorithm_theory.proofs.NearBestRuns.{nra_near_shallowest}
 use Rattle.query_text.specs.declared.algorithm.Algorithm.TheVariants.{Nra}
 use Rattle.query_core.proofs.Facts.{AreFacts}
 use Rattle.query_core.proofs.Lengths.{nra_short}

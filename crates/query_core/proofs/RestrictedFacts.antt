@@ -12,16 +12,16 @@ use Rattle.topk_theory.specs.Transcript.{seen_objects, depth}
 use Rattle.topk_theory.specs.Threshold.{IsAsked, scored, item_objects}
 use Rattle.topk_theory.proofs.AgreementLists.{all_from_members, member_of_all}
 use Rattle.topk_theory.proofs.ThresholdTop.{scored_member}
-use Rattle.optimal_law.specs.Optimal.{IsAlwaysRun}
-use Rattle.optimal_law.proofs.Depths.{depth_is}
-use Rattle.zlist_theory.specs.Restricted.{HasOne, ReadsIn, IsNearBestIn, lists_in, read_at, row_of_first, with_grades, taz_stop, taz_objects, taz_depth, taz_run_to, taz_run, taz_answer}
-use Rattle.zlist_theory.proofs.Lists.{PassesOver, lists_over}
-use Rattle.zlist_theory.proofs.Optimal.{taz_near_best}
-use Rattle.zlist_theory.proofs.Reading.{IsRead, run_read}
-use Rattle.zlist_theory.proofs.Runs.{reads_in, answer_there, run_tame, taz_run_long}
-use Rattle.zlist_theory.proofs.Seen.{seen_are_read}
-use Rattle.zlist_theory.proofs.Top.{taz_first}
-use Rattle.zlist_core.specs.Lists.{reads}
+use Rattle.algorithm_theory.specs.Optimal.{IsAlwaysRun}
+use Rattle.algorithm_theory.proofs.NearBestDepths.{depth_is}
+use Rattle.algorithm_theory.specs.Restricted.{HasOne, ReadsIn, IsNearBestIn, lists_in, read_at, row_of_first, with_grades, taz_stop, taz_objects, taz_depth, taz_run_to, taz_run, taz_answer}
+use Rattle.algorithm_theory.proofs.RestrictedLists.{PassesOver, lists_over}
+use Rattle.algorithm_theory.proofs.RestrictedNearBest.{taz_near_best}
+use Rattle.algorithm_theory.proofs.RestrictedReading.{IsRead, run_read}
+use Rattle.algorithm_theory.proofs.RestrictedRuns.{reads_in, answer_there, run_tame, taz_run_long}
+use Rattle.algorithm_theory.proofs.RestrictedSeen.{seen_are_read}
+use Rattle.algorithm_theory.proofs.RestrictedTop.{taz_first}
+use Rattle.restricted_core.specs.Lists.{reads}
 use Rattle.query_text.specs.declared.algorithm.Algorithm.TheVariants.{Taz}
 use Rattle.query_core.proofs.Facts.{AreFacts}
 use Rattle.query_core.proofs.StoppedFacts.{least_within}

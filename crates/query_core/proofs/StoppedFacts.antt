@@ -12,10 +12,10 @@ use Rattle.topk_theory.proofs.AgreementLists.{all_from_members, member_of_all}
 use Rattle.topk_theory.proofs.ThresholdDepth.{least_from-end}
 use Rattle.topk_theory.proofs.ThresholdRun.{run_agrees, run_tame}
 use Rattle.topk_theory.proofs.ThresholdTop.{scored_member}
-use Rattle.theta_theory.specs.Within.{Factor}
-use Rattle.theta_theory.specs.Nearby.{first_at, theta_stop, theta_depth, early_stop, early_depth}
-use Rattle.theta_theory.proofs.Firsts.{first_at_is, first_standing}
-use Rattle.theta_theory.proofs.Reading.{standing_seen}
+use Rattle.algorithm_theory.specs.Within.{Factor}
+use Rattle.algorithm_theory.specs.Nearby.{first_at, theta_stop, theta_depth, early_stop, early_depth}
+use Rattle.algorithm_theory.proofs.WithinFirsts.{first_at_is, first_standing}
+use Rattle.algorithm_theory.proofs.WithinReading.{standing_seen}
 use Rattle.query_text.specs.declared.algorithm.Algorithm.TheVariants.{Theta, Early}
 use Rattle.query_core.proofs.Facts.{AreFacts}
 use Rattle.query_core.proofs.Lengths.{deep_short}

@@ -7,7 +7,7 @@ use Rattle.topk_theory.specs.Threshold.{IsAsked, scored, ta_answer, ta_depth, ob
 use Rattle.topk_theory.proofs.AgreementLists.{member_of_all}
 use Rattle.topk_theory.proofs.ThresholdLaws.{agreeing_run, tame_run, seen_answer}
 use Rattle.topk_theory.proofs.ThresholdTop.{answer_is_first, scored_member}
-use Rattle.optimal_law.proofs.Runs.{ta_near_best}
+use Rattle.algorithm_theory.proofs.NearBestRuns.{ta_near_best}
 use Rattle.query_text.specs.declared.algorithm.Algorithm.TheVariants.{Ta}
 use Rattle.query_core.proofs.Facts.{AreFacts}
 use Rattle.query_core.proofs.Lengths.{ta_short}

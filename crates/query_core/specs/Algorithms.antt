@@ -2,11 +2,11 @@
 use Rattle.std.specs.Prelude.{ℕ, Bool, true, false, List}
 use Rattle.topk_theory.specs.declared.access.Access.{Access}
 use Rattle.topk_theory.specs.Asked.{Asked, Run, Answering, threshold_run, threshold_answer, no_random_run, no_random_answer, combined_run, combined_answer}
-use Rattle.optimal_law.specs.Optimal.{IsNearBest, IsNearShallowest}
-use Rattle.fa_theory.specs.Fagin.{fagin_run, fagin_answer, IsNoShallower}
-use Rattle.theta_theory.specs.Nearby.{within_run, within_answer, early_stopped_run, early_stopped_answer}
-use Rattle.zlist_theory.specs.Restricted.{restricted_run, restricted_answer, IsNearBestIn}
-use Rattle.zlist_core.specs.Lists.{reads}
+use Rattle.algorithm_theory.specs.Optimal.{IsNearBest, IsNearShallowest}
+use Rattle.algorithm_theory.specs.Fagin.{fagin_run, fagin_answer, IsNoShallower}
+use Rattle.algorithm_theory.specs.Nearby.{within_run, within_answer, early_stopped_run, early_stopped_answer}
+use Rattle.algorithm_theory.specs.Restricted.{restricted_run, restricted_answer, IsNearBestIn}
+use Rattle.restricted_core.specs.Lists.{reads}
 use Rattle.query_text.specs.declared.algorithm.Algorithm.{Algorithm}
 use Rattle.query_text.specs.declared.algorithm.Algorithm.TheVariants.{Ta, Nra, Ca, Fa, Theta, Early, Taz}
 

@@ -7,12 +7,12 @@ use Rattle.topk_theory.specs.Aggregate.{IsTop}
 use Rattle.topk_theory.specs.Asked.{Asked, Run, Answering}
 use Rattle.topk_theory.specs.Fixes.{Fixes}
 use Rattle.topk_theory.specs.Threshold.{item_objects}
-use Rattle.theta_theory.specs.Within.{Factor, IsWithin, FixesWithin}
+use Rattle.algorithm_theory.specs.Within.{Factor, IsWithin, FixesWithin}
 use Rattle.access_log.specs.Log.{AgreesWith}
 use Rattle.machine_base.specs.Machine.{MachineState, asked_of, AreExact}
 use Rattle.query_text.specs.declared.algorithm.Algorithm.{Algorithm}
 use Rattle.query_text.specs.declared.algorithm.Algorithm.TheVariants.{Taz}
-use Rattle.guarantee.specs.Guarantee.{guarantee_by}
+use Rattle.cert_text.specs.Guarantee.{guarantee_by}
 use Rattle.query_core.specs.Algorithms.{run_by, items_by, IsNearBy}
 
 -- by what a machine runs: its algorithm, and of each list whether it can be read in order, where the algorithm goes by that

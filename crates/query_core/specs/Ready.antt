@@ -6,7 +6,7 @@ use Rattle.query_text.specs.declared.algorithm.Algorithm.TheVariants.{Taz}
 use Rattle.query_text.specs.Query.{IsLawful}
 use Rattle.query_core.specs.declared.ready.Ready.{Ready}
 use Rattle.query_core.specs.Methods.{Method, method_with}
-use Rattle.limits.specs.declared.TheConstants.{MAX_OBJECTS}
+use Rattle.topk_base.specs.declared.TheConstants.{MAX_OBJECTS}
 
 -- an algorithm that reads in order what can be read so has a list to read
 abbrev pub HasToRead : Algorithm → List Bool → Type 0

@@ -11,6 +11,6 @@ mod ready;
 pub use algorithms::asks_grades;
 pub use drive_fault::DriveFault;
 pub use laws::right_answers_are_one;
-pub use limits::Memory;
 pub use machine::Machine;
 pub use ready::Ready;
+pub use topk_base::Memory;

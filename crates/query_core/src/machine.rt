@@ -21,9 +21,9 @@ use machine_base::{Answer, CoreFault};
 use nra_core::Nra;
 use query_text::Algorithm;
 use ranked_list::{Need, Row};
+use restricted_core::Taz;
 use std::alloc::Global;
 use ta_core::{Halting, Ta};
-use zlist_core::Taz;
 
 /// A machine of the algorithm that a query names. It says which access it needs next, and is fed what
 /// that access gave.

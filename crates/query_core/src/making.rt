@@ -12,9 +12,9 @@ use ca_core::Ca;
 use fa_core::Fa;
 use monotone_fn::Expr;
 use nra_core::Nra;
+use restricted_core::Taz;
 use std::alloc::Global;
 use ta_core::{Halting, Ta};
-use zlist_core::Taz;
 
 /// Of the threshold algorithm with a rule of halting.
 pub(crate) fn threshold(

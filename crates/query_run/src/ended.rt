@@ -1,8 +1,8 @@
 //! How queries end.
 
-use listed::Listed;
 use machine_base::{Answer, CoreFault};
 use source_state::LookFault;
+use topk_base::Listed;
 
 /// Why a query is refused.
 #[derive(Clone, Copy)]

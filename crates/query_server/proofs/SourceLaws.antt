@@ -5,7 +5,7 @@ use Rattle.source_api.specs.declared.counts.Counts.{Counts}
 use Rattle.source_api.specs.Counting.{NoneFell}
 use Rattle.source_api.proofs.CountLaws.{none_fell_on, none_fell_same}
 use Rattle.atomic_table.specs.Seated.{TableId}
-use Rattle.limits.specs.declared.settings.Settings.{Settings}
+use Rattle.topk_base.specs.declared.settings.Settings.{Settings}
 use Rattle.fetcher.specs.declared.slot.Slot.{Slot}
 use Rattle.source_pool.specs.Passes.{Feed}
 use Rattle.batch_run.specs.Slots.{SlotState, AllFetch, AreLent, AreTakenBack}

@@ -4,9 +4,9 @@ ghost use Rattle.std.specs.Prelude.{◌≡◌, ◌≤◌, length, All, IfOk};
 ghost use Rattle.server_conn.specs.Entries.{IsSized};
 ghost use Rattle.query_server.specs.Homes.{HaveHomes, IsWithin, IsCounted, counted_by};
 
-use limits::{MAX_OBJECTS, Memory};
 use server_conn::OpenedEntry;
 use std::alloc::Global;
+use topk_base::{MAX_OBJECTS, Memory};
 
 /// Puts the count of an open list at the place of its source.
 fn put_count(entry: OpenedEntry, counts: &mut [u32])

@@ -1,19 +1,19 @@
 //! Fetchers, each with the source and the feeder of one slot.
 
 ghost use Rattle.std.specs.Prelude.{◌≡◌, All};
-ghost use Rattle.limits.specs.Ranges.{AreSettings};
+ghost use Rattle.topk_base.specs.Ranges.{AreSettings};
 ghost use Rattle.fetcher.specs.Metering.{nothing};
 ghost use Rattle.fetcher.specs.Serving.{IsServed};
 ghost use Rattle.batch_run.specs.Slots.{HasFeeder, Fetches, AllFetch, state_of};
 
 use fetcher::{Slot, Stop, Turned, serve_turn};
-use limits::Settings;
 use source_api::Source;
 use source_pool::Pool;
 use std::alloc::Global;
 use std::sync::Wait;
 use std::thread;
 use std::thread::Threads;
+use topk_base::Settings;
 
 /// How often something was wanted of the feeder in a slot.
 fn wanted_of<S: Source>(pool: &Pool, slot: &Slot<S>) -> u64

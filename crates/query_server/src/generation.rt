@@ -1,7 +1,7 @@
 //! Generations of a server.
 
 ghost use Rattle.std.specs.Prelude.{◌≡◌, ◌<◌, ◌^◌, ℕ, List, None, All, OnOk, false, length, map};
-ghost use Rattle.limits.specs.Ranges.{AreSettings};
+ghost use Rattle.topk_base.specs.Ranges.{AreSettings};
 ghost use Rattle.batch_run.specs.Crews.{IsNewCrew};
 ghost use Rattle.query_server.specs.Homes.{AreHomes, AreAtHome, HaveHomes, IsCounted, home_of};
 ghost use Rattle.query_server.specs.Reopening.{AsksSome, IsAtHand, ReopensAll};
@@ -14,13 +14,13 @@ use super::reopening::entries_again;
 use super::sides::serve_sides;
 use batch_run::{Crew, lend, take_back};
 use fetcher::Slot;
-use limits::{Memory, Settings};
 use server_conn::Opened;
 use source_api::Source;
 use std::alloc::Global;
 use std::sync::Wait;
 use std::thread::Threads;
 use tk_io::Link;
+use topk_base::{Memory, Settings};
 
 /// A crew serves links until there are none to take. The feeders stand in the slots meanwhile.
 fn serve_crew<W: Threads + Wait + Sync, S: Source, L: Link + Send + Drop>(

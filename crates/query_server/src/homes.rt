@@ -3,9 +3,9 @@
 ghost use Rattle.std.specs.Prelude.{◌≡◌, map, IfOk};
 ghost use Rattle.query_server.specs.Homes.{home_of};
 
-use limits::Memory;
 use server_conn::OpenedEntry;
 use std::alloc::Global;
+use topk_base::Memory;
 
 /// The source of a list that is open.
 fn home_of(entry: OpenedEntry) -> Option<u32>

@@ -18,7 +18,7 @@ mod sides;
 mod waiting;
 
 pub use accepting::{Accepted, accept_all};
-pub use limits::Memory;
 pub use queue::LinkQueue;
 pub use server::{Served, serve_all};
 pub use server_conn::{Opened, OpenedEntry};
+pub use topk_base::Memory;

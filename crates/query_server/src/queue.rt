@@ -1,9 +1,9 @@
 //! A queue of links.
 
 use super::waiting::Waiting;
-use limits::Memory;
 use std::alloc::Global;
 use std::sync::{Condvar, Mutex, Wait};
+use topk_base::Memory;
 
 /// Links that were accepted and that no worker took yet. The side that has the port puts them in, and waits while the queue is full;
 /// workers take them, and wait while it is empty and more may come.

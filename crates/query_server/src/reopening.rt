@@ -6,10 +6,10 @@ ghost use Rattle.query_server.specs.Homes.{AreHomes, AreAtHome, IsAtHome};
 ghost use Rattle.query_server.specs.Reopening.{AsksOne, AsksSome, IsAsked, IsByItsSize, Reopens, ReopensAll, ReopensAt};
 
 use fetcher::Slot;
-use limits::{MAX_OBJECTS, Memory};
 use server_conn::OpenedEntry;
 use source_api::{FailKind, Source, Trouble};
 use std::alloc::Global;
+use topk_base::{MAX_OBJECTS, Memory};
 
 /// What becomes of a list whose source states so many objects at a version.
 fn entry_of(size: u64, source: u32, version: u64) -> OpenedEntry

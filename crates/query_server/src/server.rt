@@ -1,7 +1,7 @@
 //! A server.
 
 ghost use Rattle.std.specs.Prelude.{◌≡◌, ◌≢◌, ◌<◌, ◌^◌, None, All, length, map};
-ghost use Rattle.limits.specs.Ranges.{AreSettings};
+ghost use Rattle.topk_base.specs.Ranges.{AreSettings};
 ghost use Rattle.query_server.specs.Homes.{AreHomes, home_of};
 ghost use Rattle.query_server.specs.Reopening.{IsAtHand};
 ghost use Rattle.query_server.specs.Serving.{AsksForLinks, Leaves, ServesLinks};
@@ -10,7 +10,6 @@ use super::accepting::{Accepted, accept_all};
 use super::generation::serve_side;
 use super::queue::LinkQueue;
 use fetcher::Slot;
-use limits::Settings;
 use server_conn::Opened;
 use source_api::Source;
 use std::alloc::Global;
@@ -18,6 +17,7 @@ use std::sync::Wait;
 use std::thread;
 use std::thread::Threads;
 use tk_io::Port;
+use topk_base::Settings;
 
 /// How a server ended.
 #[derive(Clone, Copy, PartialEq, Eq)]

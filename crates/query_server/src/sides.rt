@@ -1,7 +1,7 @@
 //! The two sides of a generation: the fetchers, and the workers, which take links from the queue.
 
 ghost use Rattle.std.specs.Prelude.{◌≡◌, All};
-ghost use Rattle.limits.specs.Ranges.{AreSettings};
+ghost use Rattle.topk_base.specs.Ranges.{AreSettings};
 ghost use Rattle.fetcher.specs.Metering.{nothing};
 ghost use Rattle.batch_run.specs.Slots.{HasFeeder, AllFetch};
 ghost use Rattle.server_conn.specs.Entries.{view_in, MayAnswer};
@@ -11,7 +11,6 @@ use super::fetching::fetch_all;
 use super::queue::LinkQueue;
 use batch_run::Worker;
 use fetcher::{Slot, Stop};
-use limits::Settings;
 use server_conn::{Answers, Opened, serve_conn};
 use source_api::Source;
 use source_pool::{Pool, PoolPass};
@@ -20,6 +19,7 @@ use std::sync::Wait;
 use std::thread;
 use std::thread::Threads;
 use tk_io::Link;
+use topk_base::Settings;
 
 /// Serves a link, and lets it go once its connection has ended. Where a source had moved no more links are taken in this generation.
 fn serve_link<L: Link + Send + Drop>(

@@ -3,9 +3,9 @@
 ghost use Rattle.std.specs.Prelude.{◌≡◌, ◌≤◌, ◌<◌, ◌∷◌, ◌++◌, [], true, false, not, ◌==◌, IfOk, IfSome, IfNone};
 ghost use Rattle.std.specs.VecDeque.{deque_len, deque_capacity};
 
-use limits::Memory;
 use std::alloc::Global;
 use std::collections::VecDeque;
+use topk_base::Memory;
 
 /// Links that wait for a worker, the first one first, never more than there is room for; whether more may come; and whether
 /// they may be taken.

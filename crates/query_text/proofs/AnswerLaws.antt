@@ -15,7 +15,7 @@ use Rattle.query_text.specs.declared.fault.QueryFault.TheVariants as faults
 use Rattle.query_text.proofs.FinalLaws.{draft_shown, draft_listed, draft_lawful, draft_text}
 use Rattle.query_text.proofs.RatedLaws.{value_of}
 use Rattle.query_text.proofs.NumberingLaws.{numbers_lists}
-use Rattle.limits.specs.declared.TheConstants.{MAX_LINE}
+use Rattle.topk_base.specs.declared.TheConstants.{MAX_LINE}
 
 -- a draft of a whole line is numbered as an expression wants it
 pub draft_numbered : (line : List ℕ) (d : Draft) → IsDraftOf line d → NumbersLists (tree_of d.operand)

@@ -9,7 +9,7 @@ use Rattle.std.proofs.lemmas.Bool.{cond-true, cond-false, ltb-true, false_from_n
 use Rattle.std.proofs.lemmas.List.{length-append}
 use Rattle.std.proofs.lemmas.List.Elements.{All-head, All-tail}
 use Rattle.std.proofs.lemmas.Fmt.{decimal_injective}
-use Rattle.line_text.specs.Names.{IsName}
+use Rattle.topk_base.specs.Names.{IsName}
 use Rattle.monotone_fn.specs.Tree.{Tree, Trees, Terms}
 use Rattle.monotone_fn.specs.Shape.{nodes_of}
 use Rattle.monotone_fn.specs.Limits.{IsExpr, Makes, top_value}
@@ -31,7 +31,7 @@ use Rattle.query_text.proofs.CompleteLaws.{one_shape}
 use Rattle.query_text.proofs.FinalLaws.{names_in-shape, names_written}
 use Rattle.query_text.proofs.NumberingLaws.{Each-left}
 use Rattle.query_text.proofs.RatedLaws.{value_of, number_is, range_of, count_small, rated_named, rated_ranges, named_same, never_below}
-use Rattle.limits.specs.declared.TheConstants.{MAX_LINE, MAX_NUMBER, MAX_VALUE, MAX_WEIGHT}
+use Rattle.topk_base.specs.declared.TheConstants.{MAX_LINE, MAX_NUMBER, MAX_VALUE, MAX_WEIGHT}
 
 Each-from : {A : Type 0} (P : A → Type 0) (xs : List A) → All P xs → Each P xs
 Each-from P [] h = tt

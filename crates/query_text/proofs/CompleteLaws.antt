@@ -8,8 +8,8 @@ use Rattle.std.proofs.lemmas.List.{append-nil}
 use Rattle.std.proofs.lemmas.Grind.{flat_map-append}
 use Rattle.std.proofs.lemmas.Option.{same_Some}
 use Rattle.std.specs.Option.{IfSome}
-use Rattle.line_text.specs.Numbers.{is_empty, is_number}
-use Rattle.line_text.specs.Names.{is_name, is_name_byte}
+use Rattle.topk_base.specs.Numbers.{is_empty, is_number}
+use Rattle.topk_base.specs.Names.{is_name, is_name_byte}
 use Rattle.query_text.specs.Written.{Written, Arguments, IsNumber, IsWeight, IsWritten, AreArguments, Argument, arguments_from}
 use Rattle.query_text.specs.Pieces.{Piece, piece_text, text_of}
 use Rattle.query_text.specs.Shape.{SyntaxTree, Named, IsNamed, IsShape, spelled, opening, algorithm_words, named_pieces, weight_pieces, expr_pieces, argument_pieces, further_pieces, algorithm_pieces, cost_pieces, room_pieces}

@@ -18,7 +18,7 @@ use Rattle.query_text.specs.declared.operator.Operator.{Operator}
 use Rattle.query_text.specs.declared.operator.Operator.TheVariants.{Wsum}
 use Rattle.query_text.proofs.CompleteLaws.{no_weight, weighted_some}
 use Rattle.query_text.proofs.FrontLaws.{weighted_is}
-use Rattle.limits.specs.declared.TheConstants.{MAX_WEIGHT}
+use Rattle.topk_base.specs.declared.TheConstants.{MAX_WEIGHT}
 
 -- what follows from what holds where a call succeeded
 pub where_ok : {A E P Q : Type 0} (result : Result A E) → (P → Q) → OnOk result P → OnOk result Q

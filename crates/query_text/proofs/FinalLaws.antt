@@ -7,7 +7,7 @@ use Rattle.std.specs.Fmt.{decimal}
 use Rattle.std.proofs.lemmas.Bool.{false≢true}
 use Rattle.std.proofs.lemmas.List.{append-nil, map-append}
 use Rattle.std.proofs.lemmas.List.Elements.{All-cons, All-nil}
-use Rattle.line_text.specs.Names.{IsName}
+use Rattle.topk_base.specs.Names.{IsName}
 use Rattle.monotone_fn.specs.Tree.{Tree, Trees, Terms}
 use Rattle.monotone_fn.specs.Shown.{tree_of}
 use Rattle.monotone_fn.specs.declared.costs.Costs.{Costs}
@@ -29,7 +29,7 @@ use Rattle.query_text.specs.declared.operator.Operator.TheVariants.{Min, Max, Su
 use Rattle.query_text.proofs.FrontLaws.{whole_at}
 use Rattle.query_text.proofs.ReachLaws.{ends_at}
 use Rattle.query_text.proofs.RatedLaws.{count_from, rated_from, named_names}
-use Rattle.limits.specs.declared.TheConstants.{MAX_LISTS}
+use Rattle.topk_base.specs.declared.TheConstants.{MAX_LISTS}
 
 -- the syntax tree that a draft shows
 shape_in : List (List ℕ) → Draft → SyntaxTree

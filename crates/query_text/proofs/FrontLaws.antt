@@ -5,7 +5,7 @@ use Rattle.std.specs.Str.{bytes_eq}
 use Rattle.std.proofs.lemmas.Bool.{or_cases, false≢true}
 use Rattle.std.proofs.lemmas.List.{append-nil}
 use Rattle.std.proofs.lemmas.Grind.{flat_map-append}
-use Rattle.line_text.specs.Names.{is_name}
+use Rattle.topk_base.specs.Names.{is_name}
 use Rattle.query_text.proofs.ListLaws.{any_same, same_bytes}
 use Rattle.query_text.specs.Written.{Written, IsNumber, HasNoWeight, IsWeight, IsWritten, AreArguments, HasArgument, Argument, arguments_from}
 use Rattle.query_text.specs.Pieces.{Piece, piece_text, text_of}
@@ -16,7 +16,7 @@ use Rattle.std.proofs.lemmas.Option.{same_Some}
 use Rattle.query_text.specs.declared.operator.Operator.{Operator}
 use Rattle.query_text.specs.declared.operator.Operator.TheVariants.{Min, Max, Sum, Median, Wsum}
 use Rattle.query_text.proofs.WordLaws.{opened_word}
-use Rattle.limits.specs.declared.TheConstants.{MAX_NUMBER, MAX_WEIGHT}
+use Rattle.topk_base.specs.declared.TheConstants.{MAX_NUMBER, MAX_WEIGHT}
 
 -- a word of a table of one is that word, and of a table of two it is one of them
 pub only_word : (w v : List ℕ) → (bytes_eq w v || false) ≡ true → w ≡ v

@@ -8,7 +8,7 @@ use Rattle.std.proofs.lemmas.Fmt.{length-decimal-le}
 use Rattle.std.proofs.lemmas.Grind.{flat_map-append}
 use Rattle.std.proofs.lemmas.List.{get_or_past}
 use Rattle.std.proofs.lemmas.List.Elements.{All-get_or}
-use Rattle.line_text.specs.Names.{is_name_byte, IsName}
+use Rattle.topk_base.specs.Names.{is_name_byte, IsName}
 use Rattle.monotone_fn.specs.Tree.{Tree, Trees, Terms}
 use Rattle.monotone_fn.specs.Shape.{nodes_of, nodes_in, nodes_under}
 use Rattle.monotone_fn.specs.Limits.{IsExpr}
@@ -20,7 +20,7 @@ use Rattle.query_text.specs.Query.{name_of, written, arguments, weighted, named_
 use Rattle.query_text.specs.declared.query.Query.{Query}
 use Rattle.query_text.specs.declared.algorithm.Algorithm.{Algorithm}
 use Rattle.query_text.specs.declared.algorithm.Algorithm.TheVariants.{Ta, Nra, Ca, Fa, Theta, Early, Taz}
-use Rattle.limits.specs.declared.TheConstants.{MAX_LINE, MAX_WEIGHT}
+use Rattle.topk_base.specs.declared.TheConstants.{MAX_LINE, MAX_WEIGHT}
 
 -- how long the text of pieces is
 abbrev size : List Piece → ℕ

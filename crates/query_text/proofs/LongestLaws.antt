@@ -5,9 +5,9 @@ use Rattle.std.specs.Str.{all_ascii_digits}
 use Rattle.std.specs.Char.{is_ascii_digit, is_ascii_alphabetic}
 use Rattle.std.proofs.lemmas.Bool.{and_from, and_left, and_right, or_cases, or_left, or_right, or_parts, or_from, false≢true, cond-false, cases_lt, false_from_ne_true, lt-ltb, le-ltb}
 use Rattle.std.proofs.lemmas.List.{take_more, length-take}
-use Rattle.line_text.specs.Numbers.{is_empty}
-use Rattle.line_text.specs.Names.{is_name, is_name_byte}
-use Rattle.line_text.proofs.NumberLaws.{list_all_digits}
+use Rattle.topk_base.specs.Numbers.{is_empty}
+use Rattle.topk_base.specs.Names.{is_name, is_name_byte}
+use Rattle.topk_base.proofs.NumberLaws.{list_all_digits}
 use Rattle.query_text.specs.Words.{Class, opened_by, is_front, begins, IsLongest, IsLongestName}
 use Rattle.query_text.proofs.WordLaws.{begins-closed, opened_word}
 use Rattle.query_text.proofs.CompleteLaws.{opening_ends}

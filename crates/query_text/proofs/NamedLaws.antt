@@ -5,7 +5,7 @@ use Rattle.std.specs.Global.{Vec}
 use Rattle.std.specs.Option.{option_and_then}
 use Rattle.std.specs.Str.{bytes_eq}
 use Rattle.std.specs.Str.Parse.{digits_value}
-use Rattle.line_text.specs.Numbers.{is_number, number_up_to}
+use Rattle.topk_base.specs.Numbers.{is_number, number_up_to}
 use Rattle.query_text.specs.Bytes.{bytes_of}
 use Rattle.query_text.specs.Pieces.{Piece, IsInRange}
 use Rattle.query_text.specs.Query.{name_of}
@@ -19,7 +19,7 @@ use Rattle.query_text.specs.declared.operator.Operator.{Operator}
 use Rattle.query_text.specs.declared.operator.Operator.TheVariants.{Min, Max, Sum, Median, Wsum}
 use Rattle.query_text.specs.Words.{opened_by}
 use Rattle.query_text.proofs.ListLaws.{same_bytes}
-use Rattle.limits.specs.declared.TheConstants.{MAX_NUMBER}
+use Rattle.topk_base.specs.declared.TheConstants.{MAX_NUMBER}
 
 -- the name that was put last stands at the place of the count before
 pub last_name : (names : List (Vec ℕ)) (name : Vec ℕ) (more : List (List ℕ)) → name_of (bytes_of (names ++ name ∷ []) ++ more) (length names) ≡ name.items

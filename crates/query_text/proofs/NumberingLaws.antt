@@ -8,7 +8,7 @@ use Rattle.monotone_fn.specs.Shape.{nodes_of, nodes_in, nodes_under, list_count,
 use Rattle.query_text.specs.Pieces.{with_member, each_once_after, each_once}
 use Rattle.query_text.specs.Query.{name_of, lists_of, lists_among, lists_under, names_given, HasTree, HasTerm, IsPlain, ArePlain, AreWeighed}
 use Rattle.query_text.proofs.ListLaws.{Each}
-use Rattle.limits.specs.declared.TheConstants.{MAX_LISTS}
+use Rattle.topk_base.specs.declared.TheConstants.{MAX_LISTS}
 
 -- a list has a member
 abbrev pub Has : {A : Type 0} → List A → A → Type 0

@@ -4,7 +4,7 @@ use Rattle.std.specs.List.{find}
 use Rattle.std.specs.Str.{bytes_eq}
 use Rattle.std.specs.Str.Parse.{digits_value}
 use Rattle.std.specs.Fmt.{decimal}
-use Rattle.line_text.proofs.NumberLaws.{number_of-decimal, number_of-some}
+use Rattle.topk_base.proofs.NumberLaws.{number_of-decimal, number_of-some}
 use Rattle.query_text.specs.Written.{IsNumber}
 use Rattle.query_text.specs.Pieces.{Piece, IsInRange, AreInRange, names_in}
 use Rattle.query_text.specs.Shape.{Named, IsNamed, algorithm_word, algorithms, count_piece, named_pieces}
@@ -13,7 +13,7 @@ use Rattle.query_text.specs.Finish.{IsFair, AreSmall}
 use Rattle.query_text.specs.declared.query.Query.{Query}
 use Rattle.query_text.specs.declared.algorithm.Algorithm.{Algorithm}
 use Rattle.query_text.specs.declared.algorithm.Algorithm.TheVariants.{Ta, Nra, Ca, Fa, Theta, Early, Taz}
-use Rattle.limits.specs.declared.TheConstants.{MAX_NUMBER}
+use Rattle.topk_base.specs.declared.TheConstants.{MAX_NUMBER}
 
 -- the value of a number's text
 pub value_of : (n : ℕ) → n < 2 ^ 64 → digits_value 10 (decimal n) ≡ n

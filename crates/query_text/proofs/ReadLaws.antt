@@ -21,7 +21,7 @@ use Rattle.query_text.proofs.WordLaws.{Stops, empty_not_whole}
 use Rattle.query_text.proofs.FrontLaws.{text-next, fine-next, whole_at}
 use Rattle.query_text.proofs.ReachLaws.{ends_at, follows-next, Fits, refused, take-more}
 use Rattle.query_text.proofs.StateLaws.{drafts-next, fault-next, fault-new}
-use Rattle.limits.specs.declared.TheConstants.{MAX_LISTS}
+use Rattle.topk_base.specs.declared.TheConstants.{MAX_LISTS}
 
 begun_standing : (k : List ℕ) (f : Frame) (fs : List Frame)
     → standing_of (begun k f fs) ≡ at (argument_stage f.operator) (f.operator ∷ map (λ frame. frame.operator) fs)

@@ -12,7 +12,7 @@ use Rattle.query_text.specs.declared.operator.Operator.{Operator}
 use Rattle.query_text.specs.declared.fault.QueryFault.{QueryFault}
 use Rattle.query_text.specs.declared.fault.QueryFault.TheVariants as faults
 use Rattle.query_text.proofs.FrontLaws.{pieces-next, next_piece}
-use Rattle.limits.specs.declared.TheConstants.{MAX_LISTS}
+use Rattle.topk_base.specs.declared.TheConstants.{MAX_LISTS}
 
 pub lists_in-push : (ps : List Piece) (p : Piece) → lists_in (ps ++ p ∷ []) ≡ each_once_after bytes_eq (lists_in ps) (names_in (p ∷ []))
 lists_in-push ps p = ap (each_once_after bytes_eq []) (names_in-append ps (p ∷ [])) ∙ once-append bytes_eq [] (names_in ps) (names_in (p ∷ []))

@@ -5,8 +5,8 @@ use Rattle.std.specs.Str.{bytes_eq}
 use Rattle.std.specs.Str.Parse.{digits_value}
 use Rattle.std.specs.Fmt.{decimal}
 use Rattle.std.proofs.lemmas.List.{reverse-append}
-use Rattle.line_text.specs.Numbers.{number_of, is_number}
-use Rattle.line_text.proofs.NumberLaws.{decimal-number_of, number_of-some}
+use Rattle.topk_base.specs.Numbers.{number_of, is_number}
+use Rattle.topk_base.proofs.NumberLaws.{decimal-number_of, number_of-some}
 use Rattle.monotone_fn.specs.Shown.{tree_of}
 use Rattle.monotone_fn.specs.declared.node.Node.TheVariants as nodes
 use Rattle.monotone_fn.specs.declared.costs.Costs.{Costs}
@@ -29,7 +29,7 @@ use Rattle.query_text.specs.declared.stage.Stage.TheVariants as stages
 use Rattle.query_text.specs.declared.fault.QueryFault.{QueryFault}
 use Rattle.query_text.specs.declared.fault.QueryFault.TheVariants as faults
 use Rattle.query_text.proofs.ListLaws.{any_same}
-use Rattle.limits.specs.declared.TheConstants.{MAX_LISTS, MAX_NUMBER, MAX_WEIGHT}
+use Rattle.topk_base.specs.declared.TheConstants.{MAX_LISTS, MAX_NUMBER, MAX_WEIGHT}
 
 -- a word that spells a number within its range
 pub record Spelled (word : List ℕ) (least most n : ℕ) : Type 0 where

@@ -5,8 +5,8 @@ use Rattle.std.specs.Str.{bytes_eq, all_ascii_digits}
 use Rattle.std.specs.Char.{is_ascii_digit, is_ascii_alphabetic}
 use Rattle.std.proofs.lemmas.Bool.{and_parts, and_from, or_cases, or_left, or_right, false≢true, cond-true, cond-false, ltb-true, lt-ltb}
 use Rattle.std.proofs.lemmas.List.{append-nil, length-append}
-use Rattle.line_text.specs.Numbers.{is_empty, is_number}
-use Rattle.line_text.specs.Names.{is_name, is_name_byte}
+use Rattle.topk_base.specs.Numbers.{is_empty, is_number}
+use Rattle.topk_base.specs.Names.{is_name, is_name_byte}
 use Rattle.query_text.proofs.ListLaws.{same_bytes}
 use Rattle.query_text.specs.Shape.{algorithm_word, algorithms, opening}
 use Rattle.query_text.specs.Words.{Class, operators, using_words, opened_by, is_front, begins, is_whole, class_at}

@@ -2,7 +2,7 @@
 use Rattle.std.specs.Prelude.{◌≡◌, ℕ, ◌<◌, ◌≤◌, true, List, [], ◌∷◌, ◌++◌, length, map, reverse, Option, Some, None, option_map, if◌then◌else◌}
 use Rattle.std.specs.Str.{bytes_eq}
 use Rattle.std.specs.Fmt.{decimal}
-use Rattle.line_text.specs.Numbers.{is_number}
+use Rattle.topk_base.specs.Numbers.{is_number}
 use Rattle.monotone_fn.specs.Tree.{Tree, trees, terms}
 use Rattle.monotone_fn.specs.Shown.{tree_of, term_of}
 use Rattle.monotone_fn.specs.declared.costs.Costs.{Costs}
@@ -19,7 +19,7 @@ use Rattle.query_text.specs.declared.stage.Stage.{Stage}
 use Rattle.query_text.specs.declared.stage.Stage.TheVariants as stages
 use Rattle.query_text.specs.declared.fault.QueryFault.{QueryFault}
 use Rattle.query_text.specs.declared.fault.QueryFault.TheVariants as faults
-use Rattle.limits.specs.declared.TheConstants.{MAX_LISTS, MAX_WEIGHT}
+use Rattle.topk_base.specs.declared.TheConstants.{MAX_LISTS, MAX_WEIGHT}
 
 -- the arguments of a frame, by the names of their lists
 abbrev pub done_of : List (List ℕ) → Frame → List Argument

@@ -2,7 +2,7 @@
 use Rattle.std.specs.Prelude.{◌≡◌, ℕ, Bool, true, false, List, [], ◌∷◌, ◌++◌, codes, Option, Some, None, if◌then◌else◌}
 use Rattle.std.specs.List.{flat_map}
 use Rattle.std.specs.Str.{bytes_eq}
-use Rattle.line_text.specs.Numbers.{is_empty}
+use Rattle.topk_base.specs.Numbers.{is_empty}
 use Rattle.query_text.specs.Written.{Written, Argument, arguments_from, IsNumber, IsWeight, IsWritten}
 use Rattle.query_text.specs.Pieces.{Piece}
 use Rattle.query_text.specs.Shape.{SyntaxTree, Named, IsNamed, opening, count_piece, weight_pieces, expr_pieces, front_pieces, algorithm_pieces, cost_pieces, pieces_of}
@@ -11,7 +11,7 @@ use Rattle.query_text.specs.declared.operator.Operator.{Operator}
 use Rattle.query_text.specs.declared.operator.Operator.TheVariants.{Wsum}
 use Rattle.query_text.specs.declared.stage.Stage.{Stage}
 use Rattle.query_text.specs.declared.stage.Stage.TheVariants as stages
-use Rattle.limits.specs.declared.TheConstants.{MAX_NUMBER, MAX_WEIGHT}
+use Rattle.topk_base.specs.declared.TheConstants.{MAX_NUMBER, MAX_WEIGHT}
 
 -- an operator that is open: its arguments so far, and the weight that stands before the next
 pub record Frame : Type 0 where

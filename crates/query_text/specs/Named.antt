@@ -4,7 +4,7 @@ use Rattle.std.specs.Str.{bytes_eq}
 use Rattle.query_text.specs.Pieces.{with_member}
 use Rattle.query_text.specs.declared.fault.QueryFault.{QueryFault}
 use Rattle.query_text.specs.declared.fault.QueryFault.TheVariants as faults
-use Rattle.limits.specs.declared.TheConstants.{MAX_LISTS}
+use Rattle.topk_base.specs.declared.TheConstants.{MAX_LISTS}
 
 -- why a name isn't taken as that of a list
 abbrev pub IsListMissed : List (List ℕ) → List ℕ → ℕ → QueryFault → Type 0

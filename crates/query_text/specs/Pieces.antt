@@ -3,7 +3,7 @@ use Rattle.std.specs.Prelude.{◌≡◌, ◌<◌, ◌≤◌, ℕ, Bool, List, []
 use Rattle.std.specs.List.{flat_map, list_any}
 use Rattle.std.specs.Str.{bytes_eq}
 use Rattle.std.specs.Str.Parse.{digits_value}
-use Rattle.limits.specs.declared.TheConstants.{MAX_LISTS}
+use Rattle.topk_base.specs.declared.TheConstants.{MAX_LISTS}
 
 -- fixed text, or a number by its digits with the least and the greatest value that it may have, or the name of a list
 pub data Piece : Type 0 where

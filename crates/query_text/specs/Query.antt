@@ -2,7 +2,7 @@
 use Rattle.std.specs.Prelude.{◌≡◌, ◌≢◌, ◌<◌, ◌≤◌, ℕ, map, List, [], ◌∷◌, ◌++◌, length, All, AllPairs, Some, None, IfSome, option_map, slice_index_or}
 use Rattle.std.specs.Str.{bytes_eq}
 use Rattle.std.specs.Fmt.{decimal}
-use Rattle.line_text.specs.Names.{IsName}
+use Rattle.topk_base.specs.Names.{IsName}
 use Rattle.monotone_fn.specs.Tree.{Tree, Trees, Terms}
 use Rattle.monotone_fn.specs.declared.costs.Costs.{Costs}
 use Rattle.query_text.specs.Written.{Written, Arguments, Argument}
@@ -12,7 +12,7 @@ use Rattle.query_text.specs.declared.query.Query.{Query}
 use Rattle.query_text.specs.declared.algorithm.Algorithm.{Algorithm}
 use Rattle.query_text.specs.declared.algorithm.Algorithm.TheVariants.{Theta, Early}
 use Rattle.query_text.specs.declared.operator.Operator.TheVariants.{Min, Max, Sum, Median, Wsum}
-use Rattle.limits.specs.declared.TheConstants.{MAX_LISTS, MAX_NUMBER, MAX_WEIGHT}
+use Rattle.topk_base.specs.declared.TheConstants.{MAX_LISTS, MAX_NUMBER, MAX_WEIGHT}
 
 -- the name of a list by its number
 abbrev pub name_of : List (List ℕ) → ℕ → List ℕ

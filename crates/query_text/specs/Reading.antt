@@ -9,7 +9,7 @@ use Rattle.query_text.specs.Query.{printed, IsLawful}
 use Rattle.query_text.specs.declared.query.Query.{Query}
 use Rattle.query_text.specs.declared.fault.QueryFault.{QueryFault}
 use Rattle.query_text.specs.declared.fault.QueryFault.TheVariants.{LongLine, Syntax, Number, TooManyLists, BadTheta, TooManyNodes, TooDeep, TooBig, Memory}
-use Rattle.limits.specs.declared.TheConstants.{MAX_LINE}
+use Rattle.topk_base.specs.declared.TheConstants.{MAX_LINE}
 
 -- the line spells the query, which is lawful, whether or not its expression is within the limits of expressions
 pub record Spells (line : List ℕ) (query : Query) : Type 0 where

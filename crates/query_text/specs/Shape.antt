@@ -8,7 +8,7 @@ use Rattle.query_text.specs.declared.algorithm.Algorithm.{Algorithm}
 use Rattle.query_text.specs.declared.algorithm.Algorithm.TheVariants.{Ta, Nra, Ca, Fa, Theta, Early, Taz}
 use Rattle.query_text.specs.declared.operator.Operator.{Operator}
 use Rattle.query_text.specs.declared.operator.Operator.TheVariants.{Min, Max, Sum, Median, Wsum}
-use Rattle.limits.specs.declared.TheConstants.{MAX_NUMBER, MAX_WEIGHT}
+use Rattle.topk_base.specs.declared.TheConstants.{MAX_NUMBER, MAX_WEIGHT}
 
 -- the word of an algorithm, with the blank before its numbers, if it has any
 abbrev pub algorithm_word : Algorithm → List ℕ

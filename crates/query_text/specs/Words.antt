@@ -2,8 +2,8 @@
 use Rattle.std.specs.Prelude.{◌≡◌, ◌==◌, ◌&&◌, ◌||◌, ◌+◌, ◌<◌, ◌≤◌, ℕ, Bool, true, false, List, [], ◌∷◌, ◌++◌, length, take, codes, find, is_some, Option}
 use Rattle.std.specs.List.{list_any}
 use Rattle.std.specs.Str.{bytes_eq}
-use Rattle.line_text.specs.Numbers.{is_empty, is_number}
-use Rattle.line_text.specs.Names.{is_name}
+use Rattle.topk_base.specs.Numbers.{is_empty, is_number}
+use Rattle.topk_base.specs.Names.{is_name}
 use Rattle.query_text.specs.Shape.{algorithm_words, opening}
 use Rattle.query_text.specs.declared.operator.Operator.{Operator}
 use Rattle.query_text.specs.declared.operator.Operator.TheVariants.{Min, Max, Sum, Median, Wsum}

@@ -1,7 +1,7 @@
 -- An expression as a query text has it.
 use Rattle.std.specs.Prelude.{ℕ, List, Option, Some, None, IsTrue, [], ◌∷◌}
-use Rattle.line_text.specs.Numbers.{is_number}
-use Rattle.line_text.specs.Names.{IsName}
+use Rattle.topk_base.specs.Numbers.{is_number}
+use Rattle.topk_base.specs.Names.{IsName}
 use Rattle.query_text.specs.declared.operator.Operator.{Operator}
 use Rattle.query_text.specs.declared.operator.Operator.TheVariants.{Wsum}
 

@@ -9,10 +9,10 @@ use super::fault::QueryFault;
 use super::frame::{Frame, push};
 use super::named::{algorithm_of, count_within, is_text, list_of, number_within, opened_by};
 use super::stage::Stage;
-use limits::{MAX_LISTS, MAX_WEIGHT};
 use monotone_fn::{Costs, Node};
 use std::alloc::Global;
 use std::mem;
+use topk_base::{MAX_LISTS, MAX_WEIGHT};
 
 /// What the words of a query line mean, as far as they are read.
 #[derive(Drop)]

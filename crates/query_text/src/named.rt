@@ -2,7 +2,7 @@
 
 ghost use Rattle.std.specs.Prelude.{◌≡◌, ℕ, ◌≤◌, ◌++◌, List, OnOk, IfOk, IfErr, vec_len, Some, true, find, position};
 ghost use Rattle.std.specs.Str.{bytes_eq};
-ghost use Rattle.line_text.specs.Numbers.{is_number, number_of};
+ghost use Rattle.topk_base.specs.Numbers.{is_number, number_of};
 ghost use Rattle.query_text.specs.Bytes.{bytes_of};
 ghost use Rattle.query_text.specs.Pieces.{with_member, Piece, IsInRange};
 ghost use Rattle.query_text.specs.Query.{name_of};
@@ -13,9 +13,8 @@ ghost use Rattle.query_text.specs.Named.{IsListMissed};
 use super::algorithm::Algorithm;
 use super::fault::QueryFault;
 use super::operator::Operator;
-use limits::{MAX_LISTS, MAX_NUMBER};
-use line_text::number_up_to;
 use std::alloc::Global;
+use topk_base::{MAX_LISTS, MAX_NUMBER, number_up_to};
 
 /// Whether a word is this text.
 pub fn is_text(word: &[u8], text: &[u8]) -> bool

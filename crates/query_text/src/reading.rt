@@ -19,9 +19,9 @@ use super::names::Names;
 use super::query::Query;
 use super::stage::may_end;
 use super::words::{is_whole, longest};
-use limits::{MAX_LINE, MAX_LISTS};
 use monotone_fn::{Expr, ExprFault};
 use std::alloc::Global;
+use topk_base::{MAX_LINE, MAX_LISTS};
 
 /// The query that a line spells, or why it spells none.
 ///

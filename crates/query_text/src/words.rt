@@ -3,13 +3,13 @@
 ghost use Rattle.std.specs.Prelude.{◌≡◌, ◌∷◌, [], ◌<◌, length, true, false};
 ghost use Rattle.std.specs.List.{prefix_len};
 ghost use Rattle.std.specs.Char.{is_ascii_digit};
-ghost use Rattle.line_text.specs.Names.{is_name_byte};
+ghost use Rattle.topk_base.specs.Names.{is_name_byte};
 ghost use Rattle.query_text.specs.Words.{Class, begins, is_whole, class_at, IsLongest, IsLongestName};
 
 use super::algorithm::Algorithm;
 use super::named::{algorithm_of, is_text, opened_by};
 use super::stage::Stage;
-use line_text::is_name_byte;
+use topk_base::is_name_byte;
 
 /// How many bytes a word and a text have in common at their fronts.
 fn common(word: &[u8], text: &[u8]) -> usize

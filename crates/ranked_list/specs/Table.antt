@@ -1,7 +1,7 @@
 -- Ranked lists and tables. Contracts see a list as its rows from the top down, and a table as its lists. Places count from 0.
 use Rattle.std.specs.Prelude.{◌≡◌, ◌≢◌, ◌≤◌, ◌==◌, ℕ, suc, List, [], ◌∷◌, length, map, All, AllPairs, Contains, if◌then◌else◌}
 use Rattle.ranked_list.specs.declared.row.Row.{Row}
-use Rattle.limits.specs.declared.TheConstants.{TOP_GRADE}
+use Rattle.topk_base.specs.declared.TheConstants.{TOP_GRADE}
 
 -- the greatest grade
 abbrev pub top_grade : ℕ

@@ -1,6 +1,6 @@
 //! Objects with bounds on their aggregates.
 
-use listed::Listed;
+use topk_base::Listed;
 
 /// An object with a lower and an upper bound of its aggregate.
 #[derive(Clone, Copy, Debug, PartialEq, Eq)]

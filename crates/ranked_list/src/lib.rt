@@ -10,9 +10,9 @@ mod row;
 mod table;
 
 pub use item::{Item, Items};
-pub use limits::Memory;
 pub use mem_list::MemList;
 pub use need::Need;
 pub use order::{RowFault, check_next};
 pub use row::{PageRows, Row};
 pub use table::is_table;
+pub use topk_base::Memory;

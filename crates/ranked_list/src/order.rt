@@ -3,7 +3,7 @@
 ghost use Rattle.ranked_list.specs.Order.{FindsOrder};
 
 use super::row::Row;
-use limits::TOP_GRADE;
+use topk_base::TOP_GRADE;
 
 /// Why a row may not follow the rows above it. Places count from the caller's own first place.
 #[derive(Clone, Copy, Debug, PartialEq, Eq)]

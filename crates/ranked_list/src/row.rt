@@ -1,6 +1,6 @@
 //! One row of a ranked list, and rows as they come.
 
-use listed::Listed;
+use topk_base::Listed;
 
 /// An object and its grade in one list.
 #[derive(Clone, Copy, Debug, PartialEq, Eq)]

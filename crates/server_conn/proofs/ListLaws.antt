@@ -5,7 +5,7 @@ use Rattle.std.proofs.lemmas.Bool.{cases_lt}
 use Rattle.std.proofs.lemmas.Option.{same_Some, get_or_from_slice_get}
 use Rattle.std.proofs.lemmas.List.{get_or_past, get_or-map, length-map}
 use Rattle.std.proofs.lemmas.List.Elements.{All-from_recursion, All-get_or}
-use Rattle.limits.specs.declared.TheConstants.{MAX_OBJECTS}
+use Rattle.topk_base.specs.declared.TheConstants.{MAX_OBJECTS}
 use Rattle.source_pool.specs.declared.hold.Hold.{Hold}
 use Rattle.query_core.specs.declared.ready.Ready.{Ready as ReadyQuery}
 use Rattle.query_admission.specs.Admission.{IsAdmitted, Admits}

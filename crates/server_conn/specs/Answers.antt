@@ -1,7 +1,7 @@
 -- The answers that a worker remembers.
 use Rattle.std.specs.Prelude.{◌≡◌, ◌⊎◌, ◌≤◌, ◌+◌, ◌-◌, ◌++◌, ◌∷◌, ℕ, true, List, [], All, Option, Some, None, length, drop, if◌then◌else◌}
 use Rattle.std.specs.Str.{bytes_eq}
-use Rattle.limits.specs.declared.TheConstants.{MAX_LINE}
+use Rattle.topk_base.specs.declared.TheConstants.{MAX_LINE}
 use Rattle.source_pool.specs.declared.hold.Hold.{Hold}
 use Rattle.query_admission.specs.View.{View}
 use Rattle.query_admission.specs.declared.line_outcome.LineOutcome.{LineOutcome}

@@ -1,7 +1,7 @@
 -- The lists of a catalog with what became of their sources.
 use Rattle.std.specs.Prelude.{◌≡◌, ◌≤◌, ◌<◌, List, All, length, map, ⊤}
 use Rattle.atomic_table.specs.Seated.{TableId}
-use Rattle.limits.specs.declared.TheConstants.{MAX_OBJECTS}
+use Rattle.topk_base.specs.declared.TheConstants.{MAX_OBJECTS}
 use Rattle.source_pool.specs.declared.hold.Hold.{Hold}
 use Rattle.source_pool.specs.Passes.{IsPassOf}
 use Rattle.query_admission.specs.View.{View}

@@ -5,9 +5,9 @@ ghost use Rattle.std.specs.Vec.{vec_len, vec_capacity};
 ghost use Rattle.server_conn.specs.Answers.{text_of, room_made, AreFew, Keeps};
 
 use super::line::ToldLine;
-use limits::{MAX_LINE, Memory};
 use std::alloc::Global;
 use std::marker::Model;
+use topk_base::{MAX_LINE, Memory};
 
 /// The most answers that a worker remembers.
 pub const MAX_ANSWERS: usize = 8;

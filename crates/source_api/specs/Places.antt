@@ -9,7 +9,7 @@ use Rattle.source_api.specs.declared.source.Trouble.{Trouble}
 use Rattle.source_api.specs.declared.source.FailKind.TheVariants.{Failed, Garbled, Memory}
 use Rattle.source_api.specs.declared.source.Trouble.TheVariants.{Fail, Moved}
 use Rattle.source_api.specs.Counting.{no_counts, added}
-use Rattle.limits.specs.declared.TheConstants.{MAX_LIST_TEXT}
+use Rattle.topk_base.specs.declared.TheConstants.{MAX_LIST_TEXT}
 
 -- nothing counted at a place yet
 abbrev pub nothing_at : PlaceCounts

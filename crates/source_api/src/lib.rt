@@ -9,7 +9,7 @@ mod source;
 
 pub use counts::Counts;
 pub use ledger::{Ledger, PlaceCounts};
-pub use limits::Memory;
 pub use rows::{keep_first, part_of};
 pub use shelf::Shelf;
 pub use source::{FailKind, Source, Trouble};
+pub use topk_base::Memory;

@@ -18,7 +18,7 @@ use Rattle.httparse.specs.Grammar.{AllPass, is_token_byte, is_value_byte, is_ows
 use Rattle.httparse.proofs.GrammarLemmas.{response_unique}
 use Rattle.httparse.proofs.OnLiterals.{httparse_on_literals}
 use Rattle.httparse.proofs.TrimLemmas.{AllPass-reverse, skip_ows_no, trim_ows_space}
-use Rattle.line_text.proofs.NumberLaws.{canonical_from_number, decimal_bytes, decimal-number_of, number_of-decimal, number_of-some}
+use Rattle.topk_base.proofs.NumberLaws.{canonical_from_number, decimal_bytes, decimal-number_of, number_of-decimal, number_of-some}
 use Rattle.wire.specs.Bodies.{Body, absent, in_chunks, of_length, to_end, content_of, framing_of, Frames, stated_length, PassesBody}
 use Rattle.wire.specs.Responses.{AnswersResponse, IsReply, IsResponse, framing_in, PassesResponse}
 use Rattle.wire.specs.Writing.{joined, reply_text}

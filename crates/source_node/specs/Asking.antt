@@ -2,7 +2,7 @@
 use Rattle.std.specs.Prelude.{◌≡◌, ◌≤◌, ℕ, List, ◌++◌, codes, if◌then◌else◌, Option, Some, None, option_map, Result, Ok, Err, IsOk, ⊤}
 use Rattle.std.specs.Option.{ok_or}
 use Rattle.std.specs.Str.{bytes_eq}
-use Rattle.limits.specs.declared.TheConstants.{MAX_PAGE}
+use Rattle.topk_base.specs.declared.TheConstants.{MAX_PAGE}
 use Rattle.wire.specs.Targets.{Parts, parts_of}
 use Rattle.wire.specs.Queries.{number_in}
 use Rattle.source_node.specs.declared.asked.Asked.{Asked}

@@ -1,6 +1,6 @@
 -- What is read of the reply with an answer.
 use Rattle.std.specs.Prelude.{◌≡◌, ℕ, ◌<◌, ◌≤◌, ◌^◌, List, length, All, Some, option_map, IfSome, Result, Ok, Err, ⊤}
-use Rattle.limits.specs.declared.TheConstants.{MAX_PAGE}
+use Rattle.topk_base.specs.declared.TheConstants.{MAX_PAGE}
 use Rattle.wire.specs.declared.fault.WireFault.{WireFault}
 use Rattle.wire.specs.declared.fault.WireFault.TheVariants.{LinkFault, Memory}
 use Rattle.wire.specs.declared.response.Reply.{Reply}

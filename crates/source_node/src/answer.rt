@@ -6,11 +6,11 @@ ghost use Rattle.source_node.specs.Asking.{HasCount};
 ghost use Rattle.source_node.specs.Serving.{seen, GivesPage, GivesRows, StopsRows, Asks, text_of};
 
 use super::Asked;
-use limits::Memory;
 use page_json::{write_grade, write_page, write_size};
 use ranked_list::Row;
 use source_api::{FailKind, Source, Trouble};
 use std::alloc::Global;
+use topk_base::Memory;
 
 /// What a list answers to what is asked of it.
 #[derive(Drop)]

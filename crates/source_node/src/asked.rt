@@ -5,8 +5,8 @@ ghost use Rattle.std.specs.Result.{result_map_both};
 ghost use Rattle.source_node.specs.Asking.{routed, asked_by, page_asked, grade_asked, shown, AsksFor, AsksAt, HasCount};
 
 use super::ListRoutes;
-use limits::{MAX_PAGE, Memory};
 use std::alloc::Global;
+use topk_base::{MAX_PAGE, Memory};
 use wire::{Head, Refusal, number_in, read_target};
 
 /// What a request asks of a list.

@@ -1,7 +1,7 @@
 //! What is read of a node's answers: the reply by `wire`, and its body by `page_json`.
 
 ghost use Rattle.std.specs.Prelude.{◌<◌, ◌≤◌, ◌^◌, false, ℕ, List, Result, Ok, length};
-ghost use Rattle.limits.specs.declared.TheConstants.{MAX_BODY};
+ghost use Rattle.topk_base.specs.declared.TheConstants.{MAX_BODY};
 ghost use Rattle.wire.specs.Responses.{AnswersResponse};
 ghost use Rattle.wire.specs.declared.fault.WireFault.{WireFault};
 ghost use Rattle.wire.specs.declared.response.Reply.{Reply};

@@ -11,7 +11,7 @@ use Rattle.source_state.specs.State.{State, facts_of, IsCounted, IsSoundLog, IsS
 use Rattle.source_state.specs.declared.look.Look.{Look}
 use Rattle.source_state.proofs.Sound.{sound_opened}
 use Rattle.ranked_list.specs.declared.need.Need.{Need}
-use Rattle.limits.specs.declared.TheConstants.{MAX_OBJECTS}
+use Rattle.topk_base.specs.declared.TheConstants.{MAX_OBJECTS}
 use Rattle.source_pool.specs.declared.hold.Hold.{Hold}
 use Rattle.source_pool.specs.HoldSharing.{first_known}
 use Rattle.source_pool.specs.Seen.{state_seen}

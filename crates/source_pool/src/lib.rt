@@ -25,7 +25,6 @@ pub use grades::{Grades, MOST_GRADES};
 pub use hold::{Hold, NO_FAILS, NO_WAITING};
 pub use hold_sharing::{join_one, split_one};
 pub use laws::a_log_says_what_it_has;
-use listed::Listed;
 pub use lock_opening::open_lock;
 pub use look::look_once;
 pub use opening::{Opened, open_all};
@@ -35,6 +34,7 @@ pub use remembered::Remembered;
 pub use sharing::{join_all, split_all};
 pub use source_state::Memory;
 use source_state::SourceState;
+use topk_base::Listed;
 pub use window::{WINDOW_ROWS, Window};
 
 /// The states of sources, in the order of their numbers.

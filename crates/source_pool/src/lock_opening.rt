@@ -3,9 +3,9 @@
 ghost use Rattle.std.specs.Prelude.{◌≡◌, ◌≤◌, IfOk};
 ghost use Rattle.source_pool.specs.HoldSharing.{first_known};
 
-use limits::MAX_OBJECTS;
 use source_state::{Memory, SourceState};
 use std::alloc::Global;
+use topk_base::MAX_OBJECTS;
 use turn_lock::{Pass, TurnLock};
 
 /// The lock round the state of a source that had no event, with the writer's pass.

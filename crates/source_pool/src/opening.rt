@@ -10,9 +10,9 @@ use super::feeder::Feeder;
 use super::hold::{Hold, NO_FAILS, NO_WAITING};
 use super::lock_opening::open_lock;
 use super::remembered::Remembered;
-use limits::MAX_OBJECTS;
 use source_state::{Memory, SourceState};
 use std::alloc::Global;
+use topk_base::MAX_OBJECTS;
 use turn_lock::{Pass, TurnLock};
 
 /// The parts of a lock that go to the first pass of a pool: all but the feeder's one.

@@ -18,12 +18,12 @@ use super::opening::open_all;
 use super::pool_pass::PoolPass;
 use super::sharing::{join_all, make_all, split_all};
 use super::{Feeders, States};
-use limits::MAX_OBJECTS;
 use ranked_list::{Need, Row};
 use source_state::{Look, Memory, SourceState};
 use std::alloc::Global;
 use std::marker::Model;
 use std::sync::Wait;
+use topk_base::MAX_OBJECTS;
 use turn_lock::TurnLock;
 
 /// The sources that queries share, each behind a lock of its own. To a contract it is the list of the locks.

@@ -4,11 +4,11 @@ ghost use Rattle.std.specs.Prelude.{◌≡◌, ◌≤◌, [], length, IfOk, vec_
 ghost use Rattle.source_state.specs.Log.{rows_in};
 ghost use Rattle.source_pool.specs.Windows.{no_rows, most_rows, row_held, held_at, rows_from, filled, window_after, IsInReach};
 
-use limits::MAX_OBJECTS;
 use ranked_list::{Need, Row};
 use source_state::{Look, Memory, SourceState};
 use std::alloc::Global;
 use std::marker::Model;
+use topk_base::MAX_OBJECTS;
 
 /// How many rows a window has at most.
 pub const WINDOW_ROWS: u32 = 256;

@@ -28,7 +28,7 @@ use Rattle.source_state.specs.Log.{rows_in, settling_in, settled_in, graded_in, 
 use Rattle.source_state.specs.Asks.{ask_in, ask_of, good_grade, open_row, open_rows, first_above}
 use Rattle.source_state.specs.State.{State, opened, asks_of, asked_in, clash_or, above_fault, grade_asked, fault_by_grades, row_fault, settle, settle_by, GoesWith, SettlesWell, IsSoundLog, IsSound}
 use Rattle.source_state.specs.Events.{logged, one_asked, with_ask, moved, MayMove}
-use Rattle.limits.specs.declared.TheConstants.{MAX_OBJECTS}
+use Rattle.topk_base.specs.declared.TheConstants.{MAX_OBJECTS}
 use Rattle.source_state.proofs.Lists.{cond_none, none_not_some, none_found, no_first}
 use Rattle.source_state.proofs.LogLaws.{kept_rows, kept_settled, kept_graded, kept_faults, settled_rows, settled_settled, settled_graded, settled_faults, fault_rows, fault_settled, fault_graded, fault_faults, log_length, not_settled, graded_settled, graded_settling}
 use Rattle.source_state.proofs.AskLaws.{pending_parts, ask_missing, ask_is_found}

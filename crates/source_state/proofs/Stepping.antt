@@ -16,7 +16,7 @@ use Rattle.source_state.specs.State.{State, opened, asks_of, asked_in, row_fault
 use Rattle.source_state.specs.Events.{logged, one_asked, with_ask}
 use Rattle.source_state.specs.LogKeeping.{RowList, AskList, ask_objects}
 use Rattle.source_state.specs.Keeping.{KeepsState}
-use Rattle.limits.specs.declared.TheConstants.{MAX_OBJECTS}
+use Rattle.topk_base.specs.declared.TheConstants.{MAX_OBJECTS}
 use Rattle.source_state.proofs.LogLaws.{kept_rows, kept_faults, settled_rows, settled_faults, fault_rows, fault_first, settled_there}
 use Rattle.source_state.proofs.AskLaws.{asks_kept, asks_settled, asks_fault, objects_of_asks, pending_parts, ask_missing, not_asked}
 use Rattle.source_state.proofs.Sound.{log_fits, sound_opened, sound_row, sound_fault, sound_settling, sound_ask}

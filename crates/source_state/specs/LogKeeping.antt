@@ -3,10 +3,10 @@ use Rattle.std.specs.Prelude.{◌≡◌, ◌≢◌, ◌≤◌, ◌-◌, ◌++◌
 use Rattle.std.specs.List.{position_or_len}
 use Rattle.ranked_list.specs.declared.row.Row.{Row}
 use Rattle.ranked_list.specs.Table.{objects}
-use Rattle.object_map.specs.Keys.{Keys}
+use Rattle.containers.specs.Keys.{Keys}
 use Rattle.source_state.specs.declared.ask.Ask.{Ask}
 use Rattle.source_state.specs.Asks.{open_grade, is_due}
-use Rattle.limits.specs.declared.TheConstants.{MAX_OBJECTS}
+use Rattle.topk_base.specs.declared.TheConstants.{MAX_OBJECTS}
 
 -- rows with room for so many
 pub record RowList : Type 0 where

@@ -19,7 +19,7 @@ use Rattle.source_state.specs.declared.entry.SourceFault.{SourceFault}
 use Rattle.source_state.specs.declared.entry.SourceFault.TheVariants.{OutOfOrder, TooHigh, Repeated, Clash, Above}
 use Rattle.source_state.specs.Log.{rows_in, settled_in, graded_in, faults_in}
 use Rattle.source_state.specs.Asks.{ask_in, ask_of, good_grade, first_above, first_due}
-use Rattle.limits.specs.declared.TheConstants.{MAX_OBJECTS}
+use Rattle.topk_base.specs.declared.TheConstants.{MAX_OBJECTS}
 
 -- the number of the list and how many objects it has, the greatest depth that was wanted, the log, the objects that were asked in
 -- their order, how many fails of each kind came, the kind of the last one, and whether the state waits after it

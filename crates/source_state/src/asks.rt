@@ -10,11 +10,11 @@ use super::Memory;
 use super::ask::Ask;
 use super::entry::Settling;
 use super::tree::GradeTree;
-use limits::MAX_OBJECTS;
-use object_map::RoomMap;
+use containers::RoomMap;
 use ranked_list::Row;
 use std::alloc::Global;
 use std::marker::Model;
+use topk_base::MAX_OBJECTS;
 
 /// Asks of distinct objects in the order of asking, with room for so many. Only `make` takes memory.
 #[derive(Drop)]

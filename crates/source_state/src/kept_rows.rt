@@ -8,11 +8,11 @@ ghost use Rattle.topk_theory.specs.Bounds.{grade_among};
 ghost use Rattle.source_state.specs.LogKeeping.{RowList};
 
 use super::Memory;
-use limits::{MAX_OBJECTS, TOP_GRADE};
-use object_map::RoomMap;
+use containers::RoomMap;
 use ranked_list::Row;
 use std::alloc::Global;
 use std::marker::Model;
+use topk_base::{MAX_OBJECTS, TOP_GRADE};
 
 /// Rows of distinct objects in order, with room for so many. Only `make` takes memory.
 #[derive(Drop)]

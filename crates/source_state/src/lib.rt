@@ -25,9 +25,9 @@ pub use kept_rows::KeptRows;
 pub use laws::{
     each_history_is_told, each_log_is_told, full_counts_stand_still, what_is_drawn_is_consistent,
 };
-pub use limits::Memory;
 pub use look::{Look, LookFault, Waiting, look_at};
 pub use plan::{Plan, reach};
 pub use state::SourceState;
+pub use topk_base::Memory;
 pub use tree::GradeTree;
 pub use turn_lock::Tally;

@@ -5,7 +5,7 @@ ghost use Rattle.source_state.specs.State.{IsSound};
 ghost use Rattle.source_state.specs.Looking.{reach_of};
 
 use super::state::SourceState;
-use limits::MAX_OBJECTS;
+use topk_base::MAX_OBJECTS;
 
 /// What is to be fetched next.
 #[derive(Clone, Copy, Debug, PartialEq, Eq)]

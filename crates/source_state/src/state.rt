@@ -11,11 +11,11 @@ use super::asks::Asks;
 use super::entry::{Asked, LogEntry, Settling, SourceFault};
 use super::event::{Applied, Event};
 use super::kept_rows::KeptRows;
-use limits::{MAX_OBJECTS, Memory, TOP_GRADE};
 use ranked_list::{PageRows, Row};
 use source_api::FailKind;
 use std::alloc::Global;
 use std::marker::Model;
+use topk_base::{MAX_OBJECTS, Memory, TOP_GRADE};
 use turn_lock::{Logged, Tally};
 
 /// The state of one source. Only `open` takes memory. Contracts see it as `State`. It is moved by a

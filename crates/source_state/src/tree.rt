@@ -6,9 +6,9 @@ ghost use Rattle.source_state.specs.Nodes.{doubled};
 
 use super::Memory;
 use super::nodes::{first_leaf, set_leaf, stands_above};
-use limits::MAX_OBJECTS;
 use std::alloc::Global;
 use std::marker::Model;
+use topk_base::MAX_OBJECTS;
 
 /// Grades under places. Contracts see it as a list with a grade, or None, for each place below the room.
 #[derive(Drop)]

@@ -13,10 +13,10 @@ use Rattle.topk_theory.specs.Threshold.{IsAsked, item_objects}
 use Rattle.topk_theory.proofs.Agreement.{seen_is_named}
 use Rattle.topk_theory.proofs.AgreementLists.{all_from_members, member_of_all}
 use Rattle.topk_theory.proofs.ThresholdLaws.{top_answer}
-use Rattle.theta_theory.specs.Within.{Factor, IsWithin}
-use Rattle.theta_theory.specs.Nearby.{early_run, within_run, within_answer, early_stopped_run, early_stopped_answer}
-use Rattle.theta_theory.specs.Guarantee.{early_guarantee}
-use Rattle.theta_theory.proofs.Nearness.{theta_within, early_within}
+use Rattle.algorithm_theory.specs.Within.{Factor, IsWithin}
+use Rattle.algorithm_theory.specs.Nearby.{early_run, within_run, within_answer, early_stopped_run, early_stopped_answer}
+use Rattle.algorithm_theory.specs.Guarantee.{early_guarantee}
+use Rattle.algorithm_theory.proofs.Nearness.{theta_within, early_within}
 use Rattle.access_log.specs.Log.{AgreesWith}
 use Rattle.machine_base.specs.Machine.{MachineState, MakesRun, AreExact, asked_of}
 use Rattle.machine_base.proofs.MachineLaws.{whole_run}

@@ -6,7 +6,7 @@ use Rattle.std.proofs.Math.Seq.{drop-cons}
 use Rattle.ranked_list.specs.declared.item.Item.{Item}
 use Rattle.monotone_fn.specs.Limits.{AreGrades}
 use Rattle.ranked_list.specs.declared.need.Need.TheVariants.{Grade}
-use Rattle.best_k.specs.Held.{Held, item_with}
+use Rattle.machine_base.specs.Held.{Held, item_with}
 use Rattle.ranked_list.specs.Items.{put_item}
 use Rattle.ta_core.specs.Halting.{Halt}
 use Rattle.ta_core.specs.Reading.{RowProgress, grades_in_row, filled, first_or_zero, items_after, is_scored, settled, is_whole, row_begun, moved, enough, followed, need_at}

@@ -8,7 +8,7 @@ use Rattle.ranked_list.specs.declared.need.Need.{Need}
 use Rattle.ranked_list.specs.declared.need.Need.TheVariants as needs
 use Rattle.ranked_list.specs.Table.{IsTable, grade_in}
 use Rattle.ranked_list.proofs.OptionLaws.{option_cases}
-use Rattle.best_k.specs.Held.{Held}
+use Rattle.machine_base.specs.Held.{Held}
 use Rattle.monotone_fn.specs.Value.{value, IsMonotone}
 use Rattle.monotone_fn.proofs.Laws.{value-monotone}
 use Rattle.topk_theory.specs.declared.access.Access.{Access}
@@ -21,7 +21,7 @@ use Rattle.topk_theory.proofs.AgreementRows.{grade_among_row, grade_among_append
 use Rattle.topk_theory.proofs.Agreement.{given_rows_append, given_from, contains_middle, seen_distinct}
 use Rattle.topk_theory.proofs.ThresholdLists.{filter_gone, contains_flat_map}
 use Rattle.topk_theory.proofs.ThresholdRun.{random_members, seen_more, seen_stands}
-use Rattle.theta_theory.proofs.Known.{stands_known}
+use Rattle.algorithm_theory.proofs.WithinKnown.{stands_known}
 use Rattle.access_log.specs.Log.{AgreesWith}
 use Rattle.machine_base.specs.declared.base.Base.{Base}
 use Rattle.machine_base.specs.Base.{shown}

@@ -4,7 +4,7 @@ use Rattle.std.proofs.lemmas.Bool.{cases_lt}
 use Rattle.std.proofs.lemmas.List.Elements.{All-nil}
 use Rattle.ranked_list.specs.declared.row.Row.{Row}
 use Rattle.ranked_list.specs.declared.item.Item.{Item}
-use Rattle.best_k.specs.Held.{Held}
+use Rattle.machine_base.specs.Held.{Held}
 use Rattle.monotone_fn.specs.Tree.{Tree}
 use Rattle.monotone_fn.specs.Value.{value, IsMonotone}
 use Rattle.monotone_fn.proofs.Laws.{value-monotone}

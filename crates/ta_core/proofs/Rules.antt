@@ -10,7 +10,7 @@ use Rattle.topk_theory.specs.Threshold.{objects_to, threshold_at, ta_stop, ta_ru
 use Rattle.topk_theory.specs.Asked.{Asked, Run, Answering}
 use Rattle.topk_theory.specs.Machine.{IsAt}
 use Rattle.topk_theory.proofs.ThresholdLists.{count_all}
-use Rattle.theta_theory.specs.Nearby.{first_at, has_enough, early_stop, early_depth, early_stopped_run, early_stopped_answer}
+use Rattle.algorithm_theory.specs.Nearby.{first_at, has_enough, early_stop, early_depth, early_stopped_run, early_stopped_answer}
 use Rattle.machine_base.specs.Machine.{MachineState, MakesRun, asked_of}
 use Rattle.machine_base.specs.Certain.{Meets, Foresees}
 use Rattle.ta_core.specs.declared.halting.Halting.{Halting}

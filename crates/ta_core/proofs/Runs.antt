@@ -3,7 +3,7 @@ use Rattle.std.proofs.Common.{◌≡◌, ◌≢◌, ℕ, ◌<◌, ◌≤◌, inl
 use Rattle.std.proofs.lemmas.Bool.{cases_Bool, cases_lt, lt-ltb, le-ltb}
 use Rattle.ranked_list.specs.declared.row.Row.{Row}
 use Rattle.ranked_list.specs.declared.need.Need.TheVariants.{Row as RowAt, Grade, Done}
-use Rattle.best_k.specs.Held.{Held}
+use Rattle.machine_base.specs.Held.{Held}
 use Rattle.monotone_fn.specs.Value.{value}
 use Rattle.monotone_fn.proofs.Laws.{value-monotone}
 use Rattle.topk_theory.specs.Transcript.{seen_objects}

@@ -11,7 +11,7 @@ use Rattle.topk_theory.specs.declared.access.Access.{Access}
 use Rattle.topk_theory.specs.declared.access.Access.TheVariants.{Sorted, Random}
 use Rattle.monotone_fn.specs.Tree.{Tree}
 use Rattle.monotone_fn.specs.Value.{value}
-use Rattle.best_k.specs.Held.{Held}
+use Rattle.machine_base.specs.Held.{Held}
 use Rattle.topk_theory.specs.Transcript.{Agrees, list_at, random_row, random_rows, seen_objects, each_once}
 use Rattle.topk_theory.specs.Threshold.{row_at, stands, sorted_block, new_objects, random_block, ta_block, ta_run_to}
 use Rattle.topk_theory.proofs.Agreement.{random_rows_append, contains_access}

@@ -6,9 +6,9 @@ use Rattle.monotone_fn.specs.Value.{value}
 use Rattle.topk_theory.specs.Asked.{Run, Answering, threshold_run, threshold_answer}
 use Rattle.topk_theory.specs.Transcript.{seen_objects}
 use Rattle.topk_theory.specs.Threshold.{item_objects}
-use Rattle.theta_theory.specs.Within.{Factor, IsWithin, FixesWithin}
-use Rattle.theta_theory.specs.Nearby.{within_run, within_answer, early_stopped_run, early_stopped_answer}
-use Rattle.theta_theory.specs.Guarantee.{early_guarantee}
+use Rattle.algorithm_theory.specs.Within.{Factor, IsWithin, FixesWithin}
+use Rattle.algorithm_theory.specs.Nearby.{within_run, within_answer, early_stopped_run, early_stopped_answer}
+use Rattle.algorithm_theory.specs.Guarantee.{early_guarantee}
 use Rattle.access_log.specs.Log.{AgreesWith}
 use Rattle.machine_base.specs.Machine.{MachineState, MakesRun, AreExact, IsAnswerBy}
 use Rattle.ta_core.specs.declared.halting.Halting.{Halting}

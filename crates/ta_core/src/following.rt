@@ -10,8 +10,7 @@ ghost use Rattle.ta_core.specs.Shown.{reading_of};
 
 use super::halting::Halting;
 use super::progress::Progress;
-use best_k::Board;
-use machine_base::Base;
+use machine_base::{Base, Board};
 
 /// Puts the first object that waits on the board, where it has all its grades.
 pub(crate) fn score(base: &Base, board: &mut Board, progress: &Progress)

@@ -5,8 +5,8 @@ ghost use Rattle.ta_core.specs.Reading.{filled, row_added, grade_added, settled,
 ghost use Rattle.ta_core.specs.Shown.{reading_of, filled_for};
 
 use arrayvec::ArrayVec;
-use limits::MAX_LISTS;
 use ranked_list::{Need, Row};
+use topk_base::MAX_LISTS;
 
 /// At most one number for each list.
 pub(crate) type Few = ArrayVec<u32, MAX_LISTS>;

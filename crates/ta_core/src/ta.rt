@@ -4,13 +4,12 @@ use super::following::{follow, score};
 use super::halting::Halting;
 use super::progress::Progress;
 use access_log::{Access, Transcript};
-use best_k::Board;
-use limits::MAX_OBJECTS;
-use machine_base::{Answer, Base, CoreFault, Memory, Need, first_unknown};
+use machine_base::{Answer, Base, Board, CoreFault, Memory, Need, first_unknown};
 use monotone_fn::{Costs, Expr};
 use ranked_list::Row;
 use std::alloc::Global;
 use std::marker::Model;
+use topk_base::MAX_OBJECTS;
 
 /// The threshold algorithm on one query: exact, within a factor or stopped early, by its rule of halting. It says which access it needs
 /// next, and is fed what that access gave. Contracts see it as a `ThresholdState`.

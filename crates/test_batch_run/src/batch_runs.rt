@@ -1,12 +1,11 @@
 //! One run of a batch over slots of sources, and what it came to.
 
 ghost use Rattle.std.specs.Prelude.{◌≡◌, ◌≤◌, true, None, All, OnSome, length};
-ghost use Rattle.limits.specs.Ranges.{AreSettings};
+ghost use Rattle.topk_base.specs.Ranges.{AreSettings};
 ghost use Rattle.query_run.specs.Made.{IsReadyFor};
 
 use batch_run::{Batch, Settings, run_all};
 use fetcher::Slot;
-use limits::MAX_OBJECTS;
 use query_core::Ready;
 use query_run::Endings;
 use source_api::Source;
@@ -18,6 +17,7 @@ use test_mem_source::{Held, MemSource, source_of};
 use test_query_support::{
     Asked, Expected, are_small, is_ended_so, let_endings_go, let_go, readies_beside,
 };
+use topk_base::MAX_OBJECTS;
 
 /// What is used of a source: the rows and the grades that it gave, the greatest depth that was wanted, and how many objects were asked for.
 pub type Used = (u32, u32, u32, u32);

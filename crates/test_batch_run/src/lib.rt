@@ -4,6 +4,10 @@
 //!
 //! Some sources have calls that wait until calls of another source were made, which shows that the queries and the fetchers
 //! run at the same time.
+//!
+//! Tests of many made queries over a made table, with workers and fetchers that really run.
+//!
+//! They have lines that were worked out apart, and show that the settings change nothing.
 #![tactic(auto)]
 
 #[cfg(test)]
@@ -23,6 +27,8 @@ mod gated_runs;
 #[cfg(test)]
 mod grades;
 #[cfg(test)]
+mod rows;
+#[cfg(test)]
 mod runs;
 #[cfg(test)]
 mod shortage;
@@ -30,3 +36,5 @@ mod shortage;
 mod tables;
 #[cfg(test)]
 mod waiting;
+#[cfg(test)]
+mod writing;

@@ -4,7 +4,7 @@ use super::bundles::bundle_of;
 use super::no_table_is_wrong;
 use super::outcomes::one_ends;
 use super::plain::expected;
-use call_ends::Status;
+use command_line::Status;
 use std::alloc::Global;
 use test_support::Numbers;
 

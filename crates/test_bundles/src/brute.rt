@@ -5,7 +5,7 @@ use super::drives::one_of;
 use super::no_table_is_wrong;
 use super::random_tables::{Table, table_of};
 use super::table_answers::{Asked, is_right};
-use call_ends::Status;
+use command_line::Status;
 use std::alloc::Global;
 use std::str::from_utf8;
 use test_support::Numbers;

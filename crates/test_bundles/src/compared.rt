@@ -2,7 +2,7 @@
 
 use super::none_is_wrong;
 use super::outcomes::compare_ends;
-use call_ends::Status;
+use command_line::Status;
 use std::alloc::Global;
 
 const LISTS: &str = "list A\n1,900\n2,800\n3,100\nlist B\n2,700\n3,600\n1,500\n";

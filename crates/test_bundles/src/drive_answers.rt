@@ -1,7 +1,7 @@
 //! Queries over the lists of bundles, and the certificates that are written of them.
 
 use super::outcomes::one_ends;
-use call_ends::Status;
+use command_line::Status;
 use std::alloc::Global;
 
 /// A bundle's lists, a query, and its certificate from the third line on.

@@ -1,7 +1,7 @@
 //! How the commands end on an input in memory.
 
 use bundle_calls::{compare, judge, one};
-use call_ends::Status;
+use command_line::Status;
 use std::alloc::Global;
 use tk_io::{MemIntake, MemSink, Sink};
 

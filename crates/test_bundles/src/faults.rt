@@ -3,7 +3,7 @@
 use super::drives::one_into;
 use super::none_is_wrong;
 use super::outcomes::{Streams, one_ends_over};
-use call_ends::Status;
+use command_line::Status;
 use std::alloc::Global;
 use test_support::FIRST_TEXT;
 use tk_io::{Failed, MemSink, Sink};

@@ -3,7 +3,7 @@
 use super::drive_answers::{Answer, first_wrong};
 use super::none_is_wrong;
 use super::outcomes::make_ends;
-use call_ends::Status;
+use command_line::Status;
 use std::alloc::Global;
 
 /// The sections of the table of 2 lists over 4 objects that is made from 7.

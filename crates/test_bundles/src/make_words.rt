@@ -1,7 +1,7 @@
 //! The words of `make`.
 
 use super::none_is_wrong;
-use command_words::{Command, WordsFault, read_command};
+use command_line::{Command, WordsFault, read_command};
 use std::alloc::Global;
 use test_support::words_of;
 

@@ -2,7 +2,7 @@
 
 use super::drives::{compare_into, judge_into, one_into};
 use bundle_calls::make;
-use call_ends::Status;
+use command_line::Status;
 use std::alloc::Global;
 use tk_io::MemSink;
 

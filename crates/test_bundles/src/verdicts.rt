@@ -2,7 +2,7 @@
 
 use super::none_is_wrong;
 use super::outcomes::judge_ends;
-use call_ends::Status;
+use command_line::Status;
 use std::alloc::Global;
 use test_support::FIRST_TEXT;
 

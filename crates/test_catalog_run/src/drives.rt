@@ -2,7 +2,7 @@
 
 ghost use Rattle.std.specs.Prelude.{All, IfSome};
 ghost use Rattle.line_outcome.specs.LineOutcomes.{CanBeWritten};
-ghost use Rattle.limits.specs.Ranges.{AreSettings};
+ghost use Rattle.topk_base.specs.Ranges.{AreSettings};
 
 use catalog_run::{LineOutcome, Settings, let_go, run_lines};
 use catalog_text::{Catalog, read_catalog};

@@ -1,6 +1,6 @@
 //! What printed outcomes come to.
 
-use line_text::{first_line, number_front, rest_after};
+use topk_base::{first_line, number_front, rest_after};
 
 /// Sums over printed answers: how many there are, their depths, sorted and random accesses, and the lower bounds of their objects.
 #[derive(Clone, Copy, PartialEq, Eq)]

@@ -5,7 +5,6 @@ use super::figures::{Figures, figures_of};
 use super::shelves::{PLACES, shelf_of};
 use bundle_text::write_table;
 use fetcher::reach;
-use line_text::first_line;
 use made_inputs::{made_query, make_table};
 use query_text::print;
 use ranked_list::MemList;
@@ -14,6 +13,7 @@ use std::sync::Wait;
 use std::thread::Threads;
 use test_mem_source::MemShelf;
 use tk_io::MemSink;
+use topk_base::first_line;
 
 /// A made table and made queries over it: what it is made from, and their number.
 #[derive(Clone, Copy)]

@@ -1,10 +1,10 @@
 //! The sections that `make` writes, as list files, and their rows on a shelf in memory.
 
 use file_source::FileSource;
-use line_text::first_line;
 use source_api::Source;
 use std::alloc::Global;
 use test_mem_source::{MemShelf, MemSource};
+use topk_base::first_line;
 
 /// The places of the lists.
 pub const PLACES: &[&str] = &["l1.csv", "l2.csv", "l3.csv", "l4.csv"];

@@ -5,7 +5,7 @@ ghost use Rattle.monotone_fn.specs.Shape.{list_count};
 
 use super::none_is_wrong;
 use access_log::{Access, Transcript};
-use judge_core::{JudgeFault, Verdict, counter_table, judge};
+use cert_judge::{JudgeFault, Verdict, counter_table, judge};
 use monotone_fn::Expr;
 use query_text::read;
 use ranked_list::{MemList, is_table};

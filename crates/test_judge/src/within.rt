@@ -6,7 +6,7 @@ ghost use Rattle.monotone_fn.specs.Shape.{list_count};
 use super::none_is_wrong;
 use super::verdicts::{FIRST, Question, RUN, transcript_of};
 use access_log::{Access, Transcript};
-use judge_core::{JudgeFault, Verdict, judge_within};
+use cert_judge::{JudgeFault, Verdict, judge_within};
 use monotone_fn::Expr;
 use query_text::read;
 use std::alloc::Global;

@@ -1,10 +1,10 @@
 //! Bounds of objects.
 
-use limits::TOP_GRADE;
 use monotone_fn::Expr;
 use query_text::read;
 use std::alloc::Global;
 use test_plain::{high, low};
+use topk_base::TOP_GRADE;
 use topk_theory::Access;
 
 /// Accesses, an object, and its bounds after them.

@@ -4,7 +4,7 @@ ghost use Rattle.std.specs.Prelude.{◌≡◌, []};
 
 use super::holds;
 use access_log::Transcript;
-use object_map::RoomMap;
+use containers::RoomMap;
 use std::alloc::Global;
 use test_support::{random, sorted};
 

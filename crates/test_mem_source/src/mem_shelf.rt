@@ -7,10 +7,10 @@ ghost use Rattle.test_mem_source.specs.Shelved.{Shelved, text_at, source_at};
 ghost use Rattle.test_mem_source.specs.OnShelf.{placed_texts, placed_sources, in_limit, AnswersText, AnswersTake, AfterText, AfterTake};
 
 use super::MemSource;
-use limits::MAX_LIST_TEXT;
 use source_api::{FailKind, Ledger, Memory, PlaceCounts, Shelf, Trouble};
 use std::alloc::Global;
 use std::marker::Model;
+use topk_base::MAX_LIST_TEXT;
 
 /// A place and its text.
 #[derive(Drop)]

@@ -3,7 +3,7 @@
 ghost use Rattle.std.specs.Prelude.{◌≤◌, length};
 
 use super::none_is_wrong;
-use best_k::{Board, Items, Memory};
+use machine_base::{Board, Items, Memory};
 use std::alloc::Global;
 
 /// An object with its low and its high.

@@ -3,9 +3,9 @@
 ghost use Rattle.std.specs.Prelude.{◌≤◌};
 
 use super::none_is_wrong;
-use indexed_heap::{IndexedHeap, Memory};
-use limits::MAX_OBJECTS;
+use containers::{IndexedHeap, Memory};
 use std::alloc::Global;
+use topk_base::MAX_OBJECTS;
 
 /// A change of one key: the rank that it is given, None where its rank is taken away.
 type Change = (u32, Option<u32>);

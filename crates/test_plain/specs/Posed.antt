@@ -4,7 +4,7 @@ use Rattle.ranked_list.specs.declared.row.Row.{Row}
 use Rattle.ranked_list.specs.Table.{IsTable}
 use Rattle.monotone_fn.specs.Tree.{Tree}
 use Rattle.monotone_fn.specs.Shape.{list_count}
-use Rattle.limits.specs.declared.TheConstants.{MAX_LISTS}
+use Rattle.topk_base.specs.declared.TheConstants.{MAX_LISTS}
 
 -- the lists are a table, at most eight of them, and as many as the expression has
 pub record IsPosed (D : List (List Row)) (expr : Tree) : Type 0 where

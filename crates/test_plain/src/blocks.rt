@@ -10,10 +10,10 @@ use super::Memory;
 use super::each_once::add_object;
 use super::table::{grade_in, place_in, row_at};
 use super::threshold::{stands, ta_depth};
-use limits::MAX_LISTS;
 use monotone_fn::Expr;
 use ranked_list::MemList;
 use std::alloc::Global;
+use topk_base::MAX_LISTS;
 use topk_theory::Access;
 
 /// Adds the sorted accesses of a depth, in the order of the lists.

@@ -9,10 +9,10 @@ ghost use Rattle.monotone_fn.specs.Value.{value};
 ghost use Rattle.test_plain.specs.Capped.{AreCapped};
 
 use super::each_once::add_object;
-use limits::{MAX_LISTS, Memory, TOP_GRADE};
 use monotone_fn::Expr;
 use ranked_list::Item;
 use std::alloc::Global;
+use topk_base::{MAX_LISTS, Memory, TOP_GRADE};
 use topk_theory::Access;
 
 /// Whether an access is of this list and object.

@@ -13,10 +13,10 @@ use super::order::first_k;
 use super::phases::{add_missing_grades, phase_after, phase_length};
 use super::table::count_of;
 use super::threshold::items_of;
-use limits::Memory;
 use monotone_fn::{Costs, Expr};
 use ranked_list::{Item, MemList};
 use std::alloc::Global;
+use topk_base::Memory;
 use topk_theory::Access;
 
 /// Adds the accesses of a depth: its rows, and what follows them.

@@ -4,7 +4,7 @@ ghost use Rattle.std.specs.Prelude.{◌≡◌, ◌≤◌, IfOk, length};
 ghost use Rattle.std.specs.List.{flat_map};
 ghost use Rattle.topk_theory.specs.Transcript.{seen_objects};
 ghost use Rattle.topk_theory.specs.Combined.{missing_grades};
-ghost use Rattle.fa_theory.specs.Fagin.{stands_in_all, fa_stop, fa_depth, fa_rows, fa_run, fa_answer};
+ghost use Rattle.algorithm_theory.specs.Fagin.{stands_in_all, fa_stop, fa_depth, fa_rows, fa_run, fa_answer};
 ghost use Rattle.monotone_fn.specs.Value.{value};
 ghost use Rattle.test_plain.specs.Posed.{IsPosed};
 
@@ -14,10 +14,10 @@ use super::order::first_k;
 use super::phases::add_missing_grades;
 use super::table::{count_of, objects_of, place_in};
 use super::threshold::items_of;
-use limits::{MAX_LISTS, Memory};
 use monotone_fn::Expr;
 use ranked_list::{Item, MemList};
 use std::alloc::Global;
+use topk_base::{MAX_LISTS, Memory};
 use topk_theory::Access;
 
 /// Whether an object stands in the first so many places of every list.

@@ -17,7 +17,6 @@ pub use bounds::{high, known_grade, low, seen_objects};
 pub use combined::{ca_answer, ca_depth, ca_run};
 pub use each_once::add_object;
 pub use fagin::{fa_answer, fa_depth, fa_run};
-pub use limits::Memory;
 pub use no_random::{
     exceeds, first_seen, is_quiet, kth_low, nra_answer, nra_depth, nra_run, nra_run_to,
 };
@@ -25,3 +24,4 @@ pub use order::{first_k, kth_low_of};
 pub use phases::add_missing_grades;
 pub use table::{aggregate, count_of, grade_in, objects_of, place_in};
 pub use threshold::{items_of, ta_answer, ta_depth};
+pub use topk_base::Memory;

@@ -14,10 +14,10 @@ use super::blocks::add_sorted_block;
 use super::bounds::{bounded, high, seen_objects};
 use super::order::first_k;
 use super::table::{count_of, objects_of};
-use limits::{MAX_LISTS, Memory};
 use monotone_fn::Expr;
 use ranked_list::{Item, MemList};
 use std::alloc::Global;
+use topk_base::{MAX_LISTS, Memory};
 use topk_theory::Access;
 
 /// The seen objects with their bounds.

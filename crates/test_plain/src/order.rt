@@ -3,7 +3,7 @@
 ghost use Rattle.std.specs.Prelude.{◌≡◌};
 ghost use Rattle.topk_theory.specs.Order.{AreDistinct, in_order, first_k, kth_low};
 
-use best_k::put_in_order;
+use machine_base::put_in_order;
 use ranked_list::Item;
 
 /// Some items in their order.

@@ -14,10 +14,10 @@ use super::bounds::{high, known_grade, seen_objects};
 use super::no_random::{exceeds, kth_low};
 use super::order::first_k;
 use super::table::grade_in;
-use limits::{MAX_LISTS, Memory};
 use monotone_fn::{Costs, Expr};
 use ranked_list::{Item, MemList};
 use std::alloc::Global;
+use topk_base::{MAX_LISTS, Memory};
 use topk_theory::Access;
 
 /// How many rows of each list come between two random phases.

@@ -8,10 +8,10 @@ ghost use Rattle.monotone_fn.specs.Value.{value};
 ghost use Rattle.test_plain.specs.Posed.{IsPosed, no_row};
 
 use super::Memory;
-use limits::MAX_LISTS;
 use monotone_fn::Expr;
 use ranked_list::{MemList, Row};
 use std::alloc::Global;
+use topk_base::MAX_LISTS;
 
 /// The row of a list at a place from 0, or a row of zeros past the end.
 fn row_in(list: &MemList, place: u32) -> Row

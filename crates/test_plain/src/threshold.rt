@@ -8,10 +8,10 @@ ghost use Rattle.test_plain.specs.Posed.{IsPosed};
 use super::Memory;
 use super::order::first_k;
 use super::table::{aggregate, count_of, objects_of, place_in, row_at};
-use limits::MAX_LISTS;
 use monotone_fn::Expr;
 use ranked_list::{Item, MemList};
 use std::alloc::Global;
+use topk_base::MAX_LISTS;
 
 /// Whether an object stands in the first places of some list.
 pub fn stands(lists: &[MemList], depth: u32, object: u32) -> bool

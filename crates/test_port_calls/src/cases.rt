@@ -1,8 +1,7 @@
 //! One drive of `node`, and rows of drives with what they are to come to.
 
 use super::links::{Visit, all_took, port_of};
-use call_ends::Status;
-use command_words::{Command, NodeOptions, read_command};
+use command_line::{Command, NodeOptions, Status, read_command};
 use port_calls::node;
 use std::alloc::Global;
 use test_mem_source::{Held, Kind, MemShelf, shelf_of};

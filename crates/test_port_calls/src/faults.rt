@@ -3,7 +3,7 @@
 use super::cases::{CATALOG, Case, LISTS, NODE, Row, SOURCES, first_wrong};
 use super::links::Visit;
 use super::none_is_wrong;
-use call_ends::Status;
+use command_line::Status;
 
 /// A link that asks for the size.
 const SIZE: &[Visit] = &[Visit {

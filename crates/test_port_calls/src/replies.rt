@@ -3,7 +3,7 @@
 use super::cases::{CATALOG, Case, LISTS, NODE, ONE, Row, SOURCES, first_wrong};
 use super::links::Visit;
 use super::none_is_wrong;
-use call_ends::Status;
+use command_line::Status;
 
 /// The front of a reply with an answer, a line of the others, and the end of each head.
 const OK: &[u8] = b"HTTP/1.1 200 OK\r\nContent-Type: application/json\r\n";

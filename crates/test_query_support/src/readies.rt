@@ -5,10 +5,10 @@ ghost use Rattle.query_run.specs.Made.{IsReadyFor};
 ghost use Rattle.query_core.specs.Ready.{IsReady};
 
 use super::outcomes::Asked;
-use limits::MAX_OBJECTS;
 use query_core::Ready;
 use query_text::read;
 use std::alloc::Global;
+use topk_base::MAX_OBJECTS;
 
 /// Whether there is such a source, and it has so many objects.
 fn is_source(counts: &[u32], source: u32, count: u32) -> bool

@@ -8,7 +8,6 @@ ghost use Rattle.test_server.specs.Four.{four_entries, version_of};
 
 use super::desk::open_lists;
 use fetcher::Slot;
-use limits::Settings;
 use query_server::{Served, serve_all};
 use source_api::Source;
 use std::alloc::Global;
@@ -17,6 +16,7 @@ use std::thread::Threads;
 use test_mem_source::visits::{Parts, joined};
 use test_mem_source::{Held, Kind, MemSource, source_of};
 use tk_io::{MemLink, Port, Share};
+use topk_base::Settings;
 
 /// The list A at version 7, which differs so from an honest one.
 pub(crate) const fn list_a(kind: Kind) -> Held {

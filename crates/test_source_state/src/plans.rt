@@ -2,10 +2,10 @@
 
 use super::none_is_wrong;
 use super::steps::{Step, apply_all};
-use limits::MAX_OBJECTS;
 use source_api::FailKind;
 use source_state::{Plan, SourceState, reach};
 use std::alloc::Global;
+use topk_base::MAX_OBJECTS;
 
 /// How many objects the list has, its events, page and ahead, and what is fetched next.
 type Planned = (u32, &'static [Step], u32, u32, Plan);

@@ -3,9 +3,9 @@
 ghost use Rattle.std.specs.Prelude.{◌≡◌, length, IfOk};
 
 use super::Unmade;
-use limits::MAX_OBJECTS;
 use ranked_list::{MemList, PageRows, Row};
 use std::alloc::Global;
+use topk_base::MAX_OBJECTS;
 
 /// Lists, each of which is pairs of an object and its grade.
 pub type Lists<'a> = &'a [&'a [(u32, u32)]];

@@ -1,7 +1,7 @@
 //! The words of a command line.
 
 use super::Unmade;
-use command_words::Words;
+use command_line::Words;
 use std::alloc::Global;
 
 /// The most words of a command line in a test.

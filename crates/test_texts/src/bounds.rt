@@ -2,10 +2,10 @@
 
 use super::grades::are_grades;
 use super::holds;
-use limits::TOP_GRADE;
 use monotone_fn::Expr;
 use query_text::read;
 use std::alloc::Global;
+use topk_base::TOP_GRADE;
 
 /// The least and the greatest value with these known grades and bottoms, or None where these aren't one for each list.
 fn low_and_high(expr: &Expr, known: &[Option<u32>], bottoms: &[u32]) -> Option<(u64, u64)> {

@@ -1,7 +1,7 @@
 //! Where a text is cut.
 
 use super::holds;
-use line_text::{cut_at, rest_after};
+use topk_base::{cut_at, rest_after};
 
 /// Whether a text is cut at its first comma into these.
 fn is_cut_into(text: &[u8], before: &[u8], after: &[u8]) -> bool {

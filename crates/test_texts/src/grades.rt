@@ -3,7 +3,7 @@
 ghost use Rattle.std.specs.Prelude.{IsTrue};
 ghost use Rattle.monotone_fn.specs.Limits.{AreGrades};
 
-use limits::TOP_GRADE;
+use topk_base::TOP_GRADE;
 
 /// Whether each number is a grade.
 pub(super) fn are_grades(numbers: &[u32]) -> bool

@@ -1,7 +1,7 @@
 //! First lines.
 
 use super::{holds, none_is_wrong};
-use line_text::first_line;
+use topk_base::first_line;
 
 /// A text, its first line, and the rest.
 const CUT: &[(&str, &str, &str)] = &[

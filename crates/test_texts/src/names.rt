@@ -1,7 +1,7 @@
 //! Names.
 
 use super::{holds, none_is_wrong};
-use line_text::{is_name, is_name_byte};
+use topk_base::{is_name, is_name_byte};
 
 /// Texts, and whether each is a name.
 const TEXTS: &[(&str, bool)] = &[

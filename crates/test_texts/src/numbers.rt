@@ -1,7 +1,7 @@
 //! Numbers as text.
 
 use super::{holds, none_is_wrong};
-use line_text::{NumberFault, is_number, number_up_to, read_number};
+use topk_base::{NumberFault, is_number, number_up_to, read_number};
 
 /// Texts, and the number that each spells.
 const TEXTS: &[(&str, Result<u64, NumberFault>)] = &[

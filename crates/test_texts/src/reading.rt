@@ -2,8 +2,7 @@
 
 use super::{holds, none_is_wrong};
 use access_log::Items;
-use cert_text::{Accesses, CertFault, Certificate, read_certificate};
-use guarantee::Guarantee;
+use cert_text::{Accesses, CertFault, Certificate, Guarantee, read_certificate};
 use query_text::{Query, print};
 use std::alloc::Global;
 use test_support::{FIRST_ACCESSES, FIRST_ITEM, FIRST_QUERY, FIRST_TEXT};

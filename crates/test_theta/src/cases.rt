@@ -1,7 +1,7 @@
 //! Queries with what is wanted of them.
 
 use access_log::Transcript;
-use guarantee::{Guarantee, guarantee};
+use cert_text::{Guarantee, guarantee};
 use machine_base::Answer;
 use query_text::{Query, read};
 use ranked_list::{Item, Items};

@@ -2,7 +2,7 @@
 
 use super::cases::{APART, BEST, Case, NOUGHT, THREE, best, first_wrong};
 use super::none_is_wrong;
-use guarantee::has_guarantee;
+use cert_text::has_guarantee;
 use query_text::Algorithm;
 use test_support::item_row;
 

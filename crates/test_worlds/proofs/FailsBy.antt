@@ -9,7 +9,7 @@ use Rattle.ranked_list.specs.declared.need.Need.{Need}
 use Rattle.ranked_list.specs.declared.need.Need.TheVariants as need
 use Rattle.turn_lock.specs.declared.facts.Tally.{Tally}
 use Rattle.topk_theory.proofs.AgreementLists.{member_of_all, contains_here, slice_get_contains, slice_get_in_range}
-use Rattle.indexed_heap.proofs.Getting.{get_set_same, get_set_other}
+use Rattle.containers.proofs.Getting.{get_set_same, get_set_other}
 use Rattle.machine_base.specs.Machine.{MachineState}
 use Rattle.source_api.specs.declared.source.FailKind.{FailKind}
 use Rattle.source_api.specs.declared.source.FailKind.TheVariants as kind

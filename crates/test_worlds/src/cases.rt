@@ -6,10 +6,10 @@ ghost use Rattle.query_run.specs.Made.{IsReadyFor};
 use super::acts::{Act, Sources, take_act};
 use super::outcomes::{ends_of, world_of};
 use super::world::World;
-use limits::MAX_OBJECTS;
 use query_core::Ready;
 use std::alloc::Global;
 use test_query_support::{Asked, Expected, are_small, let_go, readies_of};
+use topk_base::MAX_OBJECTS;
 
 /// Sources with how many objects they state, queries, steps that are taken first where they are lawful, how many turns a round
 /// has then, and how the queries end.

@@ -16,7 +16,7 @@ ghost use Rattle.query_run.specs.Honest.{HasTable, IsOnItsRun};
 ghost use Rattle.test_worlds.specs.Runs.{Runs, RunsHonestly};
 ghost use Rattle.test_worlds.specs.Fails.{IsToldOfFail};
 
-use limits::MAX_OBJECTS;
+use topk_base::MAX_OBJECTS;
 
 /// After every list of lawful steps, honest or not, each query's transcript is drawn from the logs of its sources and is how the run of its
 /// algorithm begins on every table that agrees with it, and a refused query has its cause. Where the steps are honest for lists that

@@ -8,10 +8,10 @@ use super::none_is_wrong;
 use super::outcomes::{Ends, ends_of, world_of};
 use super::trials::{TRIALS, Trial};
 use super::world::World;
-use limits::MAX_OBJECTS;
 use query_core::Ready;
 use std::alloc::Global;
 use test_query_support::{are_small, let_go, readies_of};
+use topk_base::MAX_OBJECTS;
 
 /// What comes of an order, which has for each step the place of its act among those of the trial.
 enum Outcome {

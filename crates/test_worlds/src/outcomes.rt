@@ -6,13 +6,13 @@ ghost use Rattle.query_run.specs.Made.{IsReadyFor};
 
 use super::acts::{Sources, end_by_rounds};
 use super::world::World;
-use limits::MAX_OBJECTS;
 use query_core::Ready;
 use query_run::{Ended, Endings};
 use source_api::FailKind;
 use source_state::LookFault;
 use std::alloc::Global;
 use test_query_support::{Expected, is_ended_so, let_endings_go};
+use topk_base::MAX_OBJECTS;
 
 /// How the queries of a world ended.
 #[derive(Clone, Copy)]

@@ -18,12 +18,12 @@ ghost use Rattle.query_run.specs.Endings.{EndsAs, IsRight};
 
 use super::lawful::{are_ended, may_take};
 use super::step::Step;
-use limits::MAX_OBJECTS;
 use query_core::Ready;
 use query_run::{Ended, Endings, Inquiry, Memory, let_go, turn};
 use source_state::{Event, SourceState};
 use std::alloc::Global;
 use std::marker::Model;
+use topk_base::MAX_OBJECTS;
 
 /// Sources, and the queries that share them. Contracts see it as `WorldState`.
 #[derive(Drop)]

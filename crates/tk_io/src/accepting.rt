@@ -3,10 +3,10 @@
 ghost use Rattle.std.specs.Prelude.{◌≡◌, IfOk, IfSome, IsSome};
 
 use super::{Failed, NetLink};
-use limits::PORT_PAUSE_MILLIS;
 use std::net::TcpListener;
 use std::time::{Clock, Duration};
 use std::{io, thread};
+use topk_base::PORT_PAUSE_MILLIS;
 
 /// What the system says where nobody listens: no such descriptor, a bad address, no listener, no socket.
 const NOBODY_LISTENS: [i32; 4] = [9, 14, 22, 88];

@@ -1,8 +1,8 @@
 //! The address at which a host answered last, so that its name isn't looked up for each connection.
 
 use arrayvec::ArrayString;
-use limits::MAX_HOST;
 use std::net::SocketAddr;
+use topk_base::MAX_HOST;
 
 /// A host, a port of it, and the address at which it answered.
 #[derive(Drop)]

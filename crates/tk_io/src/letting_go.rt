@@ -2,9 +2,9 @@
 
 use super::std_intake::read_once;
 use super::time_limit::TimeLimit;
-use limits::{MAX_LINGER, MAX_LINGER_SECONDS, MAX_LINGER_WAIT_SECONDS};
 use std::net::{Shutdown, TcpStream};
 use std::time::{Clock, Duration};
+use topk_base::{MAX_LINGER, MAX_LINGER_SECONDS, MAX_LINGER_WAIT_SECONDS};
 
 /// How many bytes are read away at once.
 const AWAY: usize = 4096;

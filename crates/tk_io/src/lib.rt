@@ -28,7 +28,6 @@ mod writer;
 
 pub use dial::Dial;
 pub use intake::Intake;
-pub use limits::Memory;
 pub use link::Link;
 pub use mem_dial::MemDial;
 pub use mem_intake::MemIntake;
@@ -43,6 +42,7 @@ pub use port::Port;
 pub use sink::Sink;
 pub use std_intake::StdIntake;
 pub use std_sink::StdSink;
+pub use topk_base::Memory;
 pub use whole::{ReadError, read_piece, read_text, write_text};
 pub use writer::{Put, Writer};
 

@@ -4,10 +4,10 @@ ghost use Rattle.std.specs.Prelude.{◌≡◌, IfSome};
 
 use super::answered::Answered;
 use super::{Dial, Failed, NetLink};
-use limits::MAX_CONNECT_SECONDS;
 use std::marker::Model;
 use std::net::{Net, SocketAddr, TcpStream, ToSocketAddrs};
 use std::time::{Clock, Duration};
+use topk_base::MAX_CONNECT_SECONDS;
 
 /// What connects to hosts of the outside. It tells no links. Contracts see it as its count of faults.
 #[derive(Drop)]

@@ -7,10 +7,10 @@ use super::std_intake::read_once;
 use super::std_sink::write_once;
 use super::time_limit::TimeLimit;
 use super::{Failed, Intake, Link, Sink};
-use limits::{MAX_LINK_SECONDS, MAX_WAIT_SECONDS};
 use std::marker::Model;
 use std::net::TcpStream;
 use std::time::{Clock, Duration};
+use topk_base::{MAX_LINK_SECONDS, MAX_WAIT_SECONDS};
 
 /// A connection of std. It tells no bytes: it is the trusted edge. A read or a write that moves nothing
 /// for too long fails, and so does one that begins too long after the first one. Contracts see it as its

@@ -1,14 +1,14 @@
 -- A command over bytes in memory, and how it ends for the caller.
 use Rattle.std.proofs.Common.{◌≡◌, ◌≤◌, ◌<◌, ◌++◌, ◌+◌, ◌∙◌, ℕ, List, [], length, None, Some, sym, ap, subst, arith, append-nil}
 use Rattle.std.proofs.lemmas.List.{length-append}
-use Rattle.limits.specs.declared.TheConstants.{MAX_INPUT}
+use Rattle.topk_base.specs.declared.TheConstants.{MAX_INPUT}
 use Rattle.source_api.specs.Places.{nothing_at}
-use Rattle.call_ends.specs.Shelves.{Shelf}
-use Rattle.call_ends.specs.Calls.{Call, call_at, outside_of}
-use Rattle.call_ends.specs.Ends.{Replying, Replied, EndsReading}
-use Rattle.call_ends.specs.declared.status.Status.{Status}
-use Rattle.call_ends.specs.declared.status.Status.TheVariants.{Done, Partial, BadWords, BadCatalog, BadInput, LongInput, Memory}
-use Rattle.call_ends.specs.declared.status.Status.TheVariants.{ReadFault, WriteFault, OpenFault, PortFault}
+use Rattle.command_line.specs.Shelves.{Shelf}
+use Rattle.command_line.specs.Calls.{Call, call_at, outside_of}
+use Rattle.command_line.specs.Ends.{Replying, Replied, EndsReading}
+use Rattle.command_line.specs.declared.status.Status.{Status}
+use Rattle.command_line.specs.declared.status.Status.TheVariants.{Done, Partial, BadWords, BadCatalog, BadInput, LongInput, Memory}
+use Rattle.command_line.specs.declared.status.Status.TheVariants.{ReadFault, WriteFault, OpenFault, PortFault}
 use Rattle.topk_c.specs.Calls.{Tells, Ends}
 use Rattle.topk_c.specs.Telling.{Kept, told_status, told_text}
 

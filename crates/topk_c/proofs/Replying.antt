@@ -6,11 +6,11 @@ use Rattle.bundle_calls.specs.Lists.{RepliesToLists, printed_lines}
 use Rattle.bundle_calls.specs.Outcomes.{SaysSome}
 use Rattle.cert_text.specs.declared.outcome.Outcome.{Outcome}
 use Rattle.cert_text.specs.declared.outcome.Outcome.TheVariants.{Answered, Refused}
-use Rattle.call_ends.specs.Calls.{Output}
-use Rattle.call_ends.specs.Ends.{Says}
-use Rattle.call_ends.specs.declared.status.Status.{Status}
-use Rattle.call_ends.specs.declared.status.Status.TheVariants.{Done, Partial, BadWords, BadCatalog, BadInput, LongInput, Memory}
-use Rattle.call_ends.specs.declared.status.Status.TheVariants.{ReadFault, WriteFault, OpenFault, PortFault}
+use Rattle.command_line.specs.Calls.{Output}
+use Rattle.command_line.specs.Ends.{Says}
+use Rattle.command_line.specs.declared.status.Status.{Status}
+use Rattle.command_line.specs.declared.status.Status.TheVariants.{Done, Partial, BadWords, BadCatalog, BadInput, LongInput, Memory}
+use Rattle.command_line.specs.declared.status.Status.TheVariants.{ReadFault, WriteFault, OpenFault, PortFault}
 use Rattle.topk_c.specs.Calls.{Tells, EndsReplying}
 use Rattle.topk_c.specs.Telling.{Kept, told_status, told_text}
 

@@ -1,10 +1,10 @@
 -- What a call of the library leaves: its status, what is told of a text, and the caller's buffer.
 use Rattle.std.specs.Prelude.{◌≡◌, ◌≤◌, ◌<◌, ◌++◌, ℕ, List, [], length, drop}
-use Rattle.limits.specs.declared.TheConstants.{MAX_INPUT}
-use Rattle.call_ends.specs.Ends.{Replying}
-use Rattle.call_ends.specs.Codes.{exit_code}
-use Rattle.call_ends.specs.declared.status.Status.{Status}
-use Rattle.call_ends.specs.declared.status.Status.TheVariants.{LongInput, Memory}
+use Rattle.topk_base.specs.declared.TheConstants.{MAX_INPUT}
+use Rattle.command_line.specs.Ends.{Replying}
+use Rattle.command_line.specs.Codes.{exit_code}
+use Rattle.command_line.specs.declared.status.Status.{Status}
+use Rattle.command_line.specs.declared.status.Status.TheVariants.{LongInput, Memory}
 
 -- a text is told by its length: a buffer that has room for it begins with it and is else as it was, and one that hasn't is as it was
 pub record Tells (text before now : List ℕ) (told : ℕ) : Type 0 where

@@ -1,7 +1,7 @@
 -- What is told of what a command wrote into memory.
 use Rattle.std.specs.Prelude.{ℕ, List, []}
-use Rattle.call_ends.specs.declared.status.Status.{Status}
-use Rattle.call_ends.specs.declared.status.Status.TheVariants.{WriteFault, Memory}
+use Rattle.command_line.specs.declared.status.Status.{Status}
+use Rattle.command_line.specs.declared.status.Status.TheVariants.{WriteFault, Memory}
 
 -- a text that is kept: its bytes, and how many writes failed
 pub record Kept : Type 0 where

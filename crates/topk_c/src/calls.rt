@@ -11,7 +11,7 @@ use super::given_text::GivenText;
 use super::kept_text::KeptText;
 use bundle_calls::{answer_lists, judge, one};
 use bundle_text::GivenList;
-use call_ends::Status;
+use command_line::Status;
 use std::alloc::Global;
 
 /// Answers the query of a bundle, and tells what `one` writes of it.

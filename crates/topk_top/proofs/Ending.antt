@@ -1,16 +1,16 @@
 -- A call ends as its command does.
 use Rattle.std.proofs.Common.{◌≡◌, Option, Some, None, inl, inr, sym, subst}
-use Rattle.command_words.specs.Commands.{command_of}
-use Rattle.command_words.specs.declared.command.Command.{Command}
-use Rattle.command_words.specs.declared.command.Command.TheVariants.{One, Judge, Compare, Make, Run, Bulk, Node, Serve}
+use Rattle.command_line.specs.Commands.{command_of}
+use Rattle.command_line.specs.declared.command.Command.{Command}
+use Rattle.command_line.specs.declared.command.Command.TheVariants.{One, Judge, Compare, Make, Run, Bulk, Node, Serve}
 use Rattle.topk_top.specs.Ends.{words_refused_text, CommandEnds, EndsRefused, CallEnds}
-use Rattle.call_ends.specs.Calls.{Call, KeepsShelf, LeftAlone, WroteNothing}
-use Rattle.call_ends.specs.Ends.{Says}
-use Rattle.call_ends.specs.declared.status.Status.{Status}
-use Rattle.call_ends.specs.declared.status.Status.TheVariants.{BadWords, Memory}
+use Rattle.command_line.specs.Calls.{Call, KeepsShelf, LeftAlone, WroteNothing}
+use Rattle.command_line.specs.Ends.{Says}
+use Rattle.command_line.specs.declared.status.Status.{Status}
+use Rattle.command_line.specs.declared.status.Status.TheVariants.{BadWords, Memory}
 use Rattle.catalog_run.proofs.RunEnding.{refused_kept}
 use Rattle.port_calls.specs.Ports.{Ports, KeepsPort}
-use Rattle.call_ends.proofs.Ending.{read_none}
+use Rattle.command_line.proofs.Ending.{read_none}
 
 -- what is said where words are refused ends so
 pub ends_refused : (c : Call) (result : Status) → LeftAlone c

@@ -1,13 +1,13 @@
 -- The settings that a command has.
 use Rattle.std.proofs.Common.{◌≡◌, subst}
-use Rattle.command_words.specs.declared.bulking.BulkOptions.{BulkOptions}
-use Rattle.command_words.specs.declared.serving.ServeOptions.{ServeOptions}
-use Rattle.command_words.specs.declared.running.RunOptions.{RunOptions}
-use Rattle.command_words.specs.Bulking.{AreBulkOptions}
-use Rattle.limits.specs.Ranges.{AreSettings}
-use Rattle.command_words.specs.Commands.{HasSettings}
-use Rattle.command_words.specs.declared.command.Command.{Command}
-use Rattle.command_words.specs.declared.command.Command.TheVariants.{Run, Bulk, Serve}
+use Rattle.command_line.specs.declared.bulking.BulkOptions.{BulkOptions}
+use Rattle.command_line.specs.declared.serving.ServeOptions.{ServeOptions}
+use Rattle.command_line.specs.declared.running.RunOptions.{RunOptions}
+use Rattle.command_line.specs.Bulking.{AreBulkOptions}
+use Rattle.topk_base.specs.Ranges.{AreSettings}
+use Rattle.command_line.specs.Commands.{HasSettings}
+use Rattle.command_line.specs.declared.command.Command.{Command}
+use Rattle.command_line.specs.declared.command.Command.TheVariants.{Run, Bulk, Serve}
 
 -- the settings of a run that words ask for
 pub run_settings : (command : Command) (options : RunOptions) → command ≡ Run options → HasSettings command → AreSettings options.settings

@@ -1,23 +1,23 @@
 -- How a top call ends, by its words and its status.
 use Rattle.std.specs.Prelude.{◌≡◌, ℕ, List, Option, Some, None, codes}
-use Rattle.command_words.specs.Commands.{command_of}
-use Rattle.command_words.specs.declared.command.Command.{Command}
-use Rattle.command_words.specs.declared.command.Command.TheVariants.{One, Judge, Compare, Make, Run, Bulk, Node, Serve}
-use Rattle.call_ends.specs.Calls.{Call, LeftAlone, KeepsShelf, WroteNothing, WroteWhole, WroteFront}
+use Rattle.command_line.specs.Commands.{command_of}
+use Rattle.command_line.specs.declared.command.Command.{Command}
+use Rattle.command_line.specs.declared.command.Command.TheVariants.{One, Judge, Compare, Make, Run, Bulk, Node, Serve}
+use Rattle.command_line.specs.Calls.{Call, LeftAlone, KeepsShelf, WroteNothing, WroteWhole, WroteFront}
 use Rattle.catalog_run.specs.RunEnds.{EndsRunning}
 use Rattle.bulk_run.specs.Bulk.{bulk_text}
 use Rattle.port_calls.specs.Ports.{Ports, KeepsPort}
 use Rattle.port_calls.specs.NodeEnds.{EndsNode}
 use Rattle.port_calls.specs.ServeEnds.{EndsServe}
-use Rattle.call_ends.specs.Codes.{exit_code}
+use Rattle.command_line.specs.Codes.{exit_code}
 use Rattle.bundle_calls.specs.Made.{made_text}
 use Rattle.bundle_calls.specs.Reply.{Replies}
 use Rattle.bundle_calls.specs.Judge.{JudgeReplies}
 use Rattle.bundle_calls.specs.Compare.{Compares}
-use Rattle.call_ends.specs.declared.status.Status.{Status}
-use Rattle.call_ends.specs.declared.status.Status.TheVariants.{BadWords, Memory}
-use Rattle.call_ends.specs.declared.status.Status.TheVariants.{WriteFault}
-use Rattle.call_ends.specs.Ends.{EndsReading, EndsWriting}
+use Rattle.command_line.specs.declared.status.Status.{Status}
+use Rattle.command_line.specs.declared.status.Status.TheVariants.{BadWords, Memory}
+use Rattle.command_line.specs.declared.status.Status.TheVariants.{WriteFault}
+use Rattle.command_line.specs.Ends.{EndsReading, EndsWriting}
 
 -- `refused words`
 abbrev pub words_refused_text : List ℕ

@@ -1,2 +1,13 @@
 -- How a top call ends.
 pub mod Ends
+-- What is read of a node's answers.
+pub mod ReadBack
+-- What the laws of runs of query lines say.
+pub mod ToldTables
+pub mod Failures
+pub mod Answers
+pub mod Giving
+-- What holds of all calls of the program.
+pub mod Laws
+pub mod Limits
+pub mod RunLaws

@@ -1,15 +1,14 @@
 //! The top call.
 
 ghost use Rattle.std.specs.Prelude.{◌≤◌};
-ghost use Rattle.call_ends.specs.Calls.{call_of};
+ghost use Rattle.command_line.specs.Calls.{call_of};
 ghost use Rattle.port_calls.specs.Ports.{ports_of};
 ghost use Rattle.topk_top.specs.Ends.{CallEnds};
 
 use bulk_run::bulk;
 use bundle_calls::{compare, judge, make, one};
-use call_ends::{Status, say};
 use catalog_run::run;
-use command_words::{Command, Words, WordsFault, read_command};
+use command_line::{Command, Status, Words, WordsFault, read_command, say};
 use port_calls::{node, serve};
 use source_api::Shelf;
 use std::alloc::Global;

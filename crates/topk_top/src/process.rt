@@ -1,13 +1,12 @@
 //! The top call by the words of a process.
 
 ghost use Rattle.std.specs.Prelude.{List, ℕ};
-ghost use Rattle.call_ends.specs.Calls.{call_of};
+ghost use Rattle.command_line.specs.Calls.{call_of};
 ghost use Rattle.port_calls.specs.Ports.{ports_of};
 ghost use Rattle.topk_top.specs.Ends.{ExitsBy};
 
 use super::call::top;
-use call_ends::Status;
-use command_words::{Words, WordsFault, read_words};
+use command_line::{Status, Words, WordsFault, read_words};
 use source_api::Shelf;
 use std::alloc::Global;
 use std::env::Env;

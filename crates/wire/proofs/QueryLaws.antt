@@ -3,7 +3,7 @@ use Rattle.std.proofs.Common.{◌≡◌, ◌≤◌, ℕ, Bool, true, false, cond
 use Rattle.std.specs.Option.{option_and_then}
 use Rattle.std.proofs.lemmas.Bool.{leb-true}
 use Rattle.std.proofs.lemmas.Option.{same_Some}
-use Rattle.line_text.specs.Numbers.{number_of, number_up_to}
+use Rattle.topk_base.specs.Numbers.{number_of, number_up_to}
 
 -- a number that is at most `most`
 pub number_within : (most n : ℕ) (text : List ℕ) → number_up_to most text ≡ Some n → n ≤ most

@@ -6,7 +6,7 @@ use Rattle.std.specs.Str.Parse.{digits_value}
 use Rattle.std.specs.Char.{to_ascii_lowercase}
 use Rattle.httparse.specs.Ascii.{crlf_bytes}
 use Rattle.httparse.specs.Grammar.{Field, IsField, LineEnd, print_section, ChunkLine, IsChunkLine, print_chunk_line, chunk_size}
-use Rattle.limits.specs.declared.TheConstants.{MAX_HEAD, MAX_HEADERS, MAX_CHUNK_LINE, MAX_BODY}
+use Rattle.topk_base.specs.declared.TheConstants.{MAX_HEAD, MAX_HEADERS, MAX_CHUNK_LINE, MAX_BODY}
 use Rattle.wire.specs.Heads.{count_named, all_named, first_named}
 use Rattle.wire.specs.Parts.{Reads, PassesBytes, PassesHeadLimits}
 use Rattle.wire.specs.declared.framing.Framing.{Framing}

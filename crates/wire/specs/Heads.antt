@@ -5,7 +5,7 @@ use Rattle.std.specs.Str.{bytes_eq}
 use Rattle.std.specs.Char.{is_ascii_alphanumeric, to_ascii_lowercase}
 use Rattle.httparse.specs.Grammar.{RequestHead, IsRequestHead, print_request, ReadsRequest}
 use Rattle.httparse.specs.Spans.{name_and_value}
-use Rattle.limits.specs.declared.TheConstants.{MAX_HEAD, MAX_HEADERS}
+use Rattle.topk_base.specs.declared.TheConstants.{MAX_HEAD, MAX_HEADERS}
 use Rattle.wire.specs.Parts.{PassesHeadLimits}
 use Rattle.wire.specs.declared.fault.WireFault.{WireFault}
 use Rattle.wire.specs.declared.fault.WireFault.TheVariants.{LinkFault, BadMessage, TooLong, Memory}

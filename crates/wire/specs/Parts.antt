@@ -1,7 +1,7 @@
 -- Parts of a message that stand at the front of bytes: a kind of part is given by its valid trees, and by the bytes that each tree is printed as.
 use Rattle.std.specs.Prelude.{◌≡◌, ◌⊎◌, ℕ, ◌<◌, ◌≤◌, List, [], ◌∷◌, ◌++◌, length, drop, Option, Some, None, IfSome, Result, Ok, Err, ⊤}
 use Rattle.std.specs.Io.KnownBytes.{Consumes}
-use Rattle.limits.specs.declared.TheConstants.{MAX_HEAD, MAX_HEADERS}
+use Rattle.topk_base.specs.declared.TheConstants.{MAX_HEAD, MAX_HEADERS}
 use Rattle.wire.specs.declared.fault.WireFault.{WireFault}
 use Rattle.wire.specs.declared.fault.WireFault.TheVariants.{LinkFault, BadMessage, TooLong, Memory}
 use Rattle.wire.specs.declared.part.Found.{Found}

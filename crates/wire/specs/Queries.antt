@@ -4,7 +4,7 @@ use Rattle.std.specs.Option.{option_and_then}
 use Rattle.std.specs.Str.{bytes_eq}
 use Rattle.std.specs.Str.Lossy.{utf8_lossy}
 use Rattle.form_urlencoded.specs.Form.{raw_pairs, decode}
-use Rattle.line_text.specs.Numbers.{number_up_to}
+use Rattle.topk_base.specs.Numbers.{number_up_to}
 
 -- the text that a name or a value stands for: `+` is a space, escapes are decoded, and what isn't UTF-8 becomes U+FFFD
 abbrev pub text_of : List ℕ → List ℕ

@@ -2,7 +2,7 @@
 use Rattle.std.specs.Prelude.{◌≡◌, ℕ, ◌≤◌, ◌⊎◌, Bool, false, ◌&&◌, List, length, map, nat_le, Option, option_map, Result, Ok, Err, ⊤}
 use Rattle.httparse.specs.Grammar.{ResponseHead, IsResponseHead, print_response, ReadsResponse, status_code}
 use Rattle.httparse.specs.Spans.{name_and_value}
-use Rattle.limits.specs.declared.TheConstants.{MAX_HEAD, MAX_HEADERS}
+use Rattle.topk_base.specs.declared.TheConstants.{MAX_HEAD, MAX_HEADERS}
 use Rattle.wire.specs.Bodies.{framing_of, Body, absent, content_of, Frames, IsShortBody, PassesBody}
 use Rattle.wire.specs.Parts.{PassesHeadLimits}
 use Rattle.wire.specs.declared.fault.WireFault.{WireFault}

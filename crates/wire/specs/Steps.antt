@@ -2,7 +2,7 @@
 use Rattle.std.specs.Prelude.{◌≡◌, ℕ, ◌≤◌, Bool, true, false, List, ◌++◌, length, Option, Some, IfSome, Result, Ok, Err, ⊤}
 use Rattle.std.specs.Io.KnownBytes.{Consumes}
 use Rattle.httparse.specs.Grammar.{ResponseHead, status_code, ChunkLine, print_chunk_line, chunk_size}
-use Rattle.limits.specs.declared.TheConstants.{MAX_CHUNK_LINE, MAX_BODY}
+use Rattle.topk_base.specs.declared.TheConstants.{MAX_CHUNK_LINE, MAX_BODY}
 use Rattle.wire.specs.Bodies.{Body, content_of, Frames, IsShortBody, PassesBody, Chunk, IsChunk, print_chunk, IsLast, AreChunks, print_chunks, contents, HaveShortLines, IsChunkedBody, print_chunked, PassesChunk, PassesChunks, Trailers, AreShort}
 use Rattle.wire.specs.Parts.{HasNone}
 use Rattle.wire.specs.Responses.{IsShortResponse, framing_in}

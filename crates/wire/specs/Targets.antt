@@ -4,7 +4,7 @@ use Rattle.std.specs.List.{position_or_len}
 use Rattle.std.specs.Option.{option_and_then, option_map_or}
 use Rattle.std.specs.Str.{bytes_eq}
 use Rattle.std.specs.Char.{to_ascii_lowercase}
-use Rattle.line_text.specs.Cuts.{cut_at}
+use Rattle.topk_base.specs.Cuts.{cut_at}
 use Rattle.wire.specs.declared.target.Target.{Target}
 
 -- the path and the query part of a target

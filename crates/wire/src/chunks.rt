@@ -13,9 +13,9 @@ use super::feed::Feed;
 use super::part::{Found, MessagePart, take_part};
 use httparse::spans::{EMPTY_HEADER_SPAN, parse_headers};
 use httparse::{Error, Status, parse_chunk_size};
-use limits::{MAX_BODY, MAX_CHUNK_LINE, MAX_HEAD, MAX_HEADERS};
 use std::alloc::Global;
 use tk_io::Intake;
+use topk_base::{MAX_BODY, MAX_CHUNK_LINE, MAX_HEAD, MAX_HEADERS};
 
 /// Takes all chunks to the body, and the line of the last one.
 pub(crate) fn take_chunks<R: Intake>(
@@ -65,7 +65,7 @@ fn take_chunk<R: Intake>(
 struct ChunkLine;
 
 impl MessagePart for ChunkLine {
-    ghost use Rattle.limits.specs.declared.TheConstants.{MAX_CHUNK_LINE};
+    ghost use Rattle.topk_base.specs.declared.TheConstants.{MAX_CHUNK_LINE};
     ghost use Rattle.std.specs.Prelude.{refl};
     ghost use Rattle.httparse.specs.Grammar as grammar;
 
@@ -154,7 +154,7 @@ fn take_line_end<R: Intake>(link: &mut R, feed: &mut Feed) -> Result<(), WireFau
 pub(crate) struct Trailers;
 
 impl MessagePart for Trailers {
-    ghost use Rattle.limits.specs.declared.TheConstants.{MAX_HEAD};
+    ghost use Rattle.topk_base.specs.declared.TheConstants.{MAX_HEAD};
     ghost use Rattle.std.proofs.Common.{inl, refl};
     ghost use Rattle.wire.specs.Bodies as bodies;
 

@@ -6,7 +6,7 @@ ghost use Rattle.wire.specs.Bodies.{stated_length, framing_of, framing_by_length
 
 use super::lines::{Name, are_all, are_chunked, count_named, first_named};
 use httparse::spans::HeaderSpan;
-use line_text::{are_digits, value_of_digits};
+use topk_base::{are_digits, value_of_digits};
 
 /// How the end of a response's body is found (RFC 9112, section 6.3).
 #[derive(Clone, Copy, Debug, PartialEq, Eq)]

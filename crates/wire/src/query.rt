@@ -6,9 +6,9 @@ ghost use Rattle.wire.specs.Queries.{value_in, number_in, number_between};
 
 use super::Memory;
 use form_urlencoded::{decode, raw_pairs};
-use line_text::number_up_to;
 use std::alloc::Global;
 use std::borrow::CowStr;
+use topk_base::number_up_to;
 
 /// The value of the first pair of this name, or None where no pair has it. A name without `=` has the
 /// empty value.

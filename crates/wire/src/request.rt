@@ -17,9 +17,9 @@ use super::part::{Found, MessagePart, take_part};
 use http::Method;
 use httparse::spans::{EMPTY_HEADER_SPAN, HeaderSpan, RequestSpans, parse_request};
 use httparse::{Error, Status};
-use limits::{MAX_HEAD, MAX_HEADERS};
 use std::alloc::{AllocError, Global};
 use tk_io::Link;
+use topk_base::{MAX_HEAD, MAX_HEADERS};
 
 /// The head of a request: its method and its target, as they came.
 #[derive(Drop)]
@@ -91,7 +91,7 @@ fn with_host(asked: Asked) -> Result<Head, WireFault>
 struct RequestHead;
 
 impl MessagePart for RequestHead {
-    ghost use Rattle.limits.specs.declared.TheConstants.{MAX_HEAD};
+    ghost use Rattle.topk_base.specs.declared.TheConstants.{MAX_HEAD};
     ghost use Rattle.std.proofs.Common.{inl, refl};
     ghost use Rattle.httparse.specs.Grammar as grammar;
 

@@ -17,9 +17,9 @@ use super::part::{Found, MessagePart, take_part};
 use super::{Framing, WireFault};
 use httparse::spans::{EMPTY_HEADER_SPAN, HeaderSpan, ResponseSpans, parse_response};
 use httparse::{Error, Status};
-use limits::{MAX_BODY, MAX_HEAD, MAX_HEADERS};
 use std::alloc::Global;
 use tk_io::{Intake, Link};
+use topk_base::{MAX_BODY, MAX_HEAD, MAX_HEADERS};
 
 /// A response: its status, and its body where the status is 200.
 #[derive(Drop)]
@@ -179,7 +179,7 @@ fn take_rest<R: Intake>(link: &mut R, feed: &mut Feed, body: &mut Vec<u8>) -> Re
 struct ResponseHead;
 
 impl MessagePart for ResponseHead {
-    ghost use Rattle.limits.specs.declared.TheConstants.{MAX_HEAD};
+    ghost use Rattle.topk_base.specs.declared.TheConstants.{MAX_HEAD};
     ghost use Rattle.std.proofs.Common.{inl, refl};
     ghost use Rattle.httparse.specs.Grammar as grammar;
 

@@ -6,7 +6,7 @@ ghost use Rattle.std.specs.Str.{bytes_eq};
 ghost use Rattle.std.specs.Char.{to_ascii_lowercase};
 ghost use Rattle.wire.specs.Targets.{shown, ends_authority, is_rooted, behind_scheme, behind_authority, rooted, cut_query, parts_of, IsBehind};
 
-use line_text::cut_at;
+use topk_base::cut_at;
 
 /// What a target names: a path, and the query part behind it.
 #[derive(Clone, Copy, Debug)]

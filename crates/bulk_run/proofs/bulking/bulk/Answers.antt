@@ -1,8 +1,8 @@
 use Rattle.std.proofs.Common.{ap, refl}
 use Rattle.std.proofs.KnownBytes.{Keeps-refl}
 use Rattle.bulk_run.specs.Text.{sums_text}
-use Rattle.call_ends.specs.declared.status.Status.TheVariants.{Done}
-use Rattle.call_ends.proofs.Ending.{said, said_as, ends_written}
+use Rattle.command_line.specs.declared.status.Status.TheVariants.{Done}
+use Rattle.command_line.proofs.Ending.{said, said_as, ends_written}
 use Rattle.bulk_run.proofs.bulking.bulk.Goals as goal
 
 pub returns-clause-ends : goal.returns-clause-ends

@@ -1,8 +1,8 @@
 use Rattle.std.proofs.Common.{refl, subst}
 use Rattle.std.proofs.KnownBytes.{Keeps-refl}
-use Rattle.limits.specs.declared.TheConstants.{MAX_INPUT}
+use Rattle.topk_base.specs.declared.TheConstants.{MAX_INPUT}
 use Rattle.tk_io.specs.Whole.{StopsReading}
-use Rattle.call_ends.specs.Calls.{output_as}
+use Rattle.command_line.specs.Calls.{output_as}
 use Rattle.bundle_calls.specs.Reply.{Replies}
 use Rattle.bundle_calls.specs.Outcomes.{SaysReply}
 use Rattle.bundle_calls.proofs.Ending.{ends_one}

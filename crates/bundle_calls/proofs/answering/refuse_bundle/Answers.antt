@@ -4,8 +4,8 @@ use Rattle.std.specs.Fmt.{decimal}
 use Rattle.tk_io.specs.Pieces.{Puts, written_to}
 use Rattle.tk_io.proofs.Putting.{puts_then, puts_written}
 use Rattle.bundle_calls.specs.Reply.{bundle_refused_text}
-use Rattle.call_ends.specs.declared.status.Status.TheVariants.{BadInput}
-use Rattle.call_ends.proofs.Ending.{said}
+use Rattle.command_line.specs.declared.status.Status.TheVariants.{BadInput}
+use Rattle.command_line.proofs.Ending.{said}
 use Rattle.bundle_calls.proofs.answering.refuse_bundle.Goals as goal
 
 pub returns-clause-counts : goal.returns-clause-counts

@@ -1,6 +1,6 @@
 use Rattle.std.proofs.Common.{sym, ap, ◌∙◌, subst}
 use Rattle.cert_text.specs.Outcome.{outcome_text, IsOutcome}
-use Rattle.call_ends.proofs.Ending.{said, said_as}
+use Rattle.command_line.proofs.Ending.{said, said_as}
 use Rattle.bundle_calls.proofs.answering.write_line.Goals as goal
 
 pub returns-clause-says : goal.returns-clause-says

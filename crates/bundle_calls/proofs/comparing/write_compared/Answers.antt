@@ -1,7 +1,7 @@
 use Rattle.std.proofs.Common.{rules, ◌≡◌, ◌∙◌}
 use Rattle.tk_io.proofs.Putting.{puts_written}
-use Rattle.call_ends.specs.declared.status.Status.TheVariants.{Done}
-use Rattle.call_ends.proofs.Ending.{said}
+use Rattle.command_line.specs.declared.status.Status.TheVariants.{Done}
+use Rattle.command_line.proofs.Ending.{said}
 use Rattle.bundle_calls.specs.Comparing.{compared_text}
 use Rattle.bundle_calls.proofs.comparing.write_compared.Goals as goal
 

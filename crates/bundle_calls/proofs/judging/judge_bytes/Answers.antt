@@ -1,7 +1,7 @@
 use Rattle.std.proofs.Common.{inl, inr, refl}
 use Rattle.std.proofs.KnownBytes.{Keeps-refl}
 use Rattle.cert_judge.specs.Text.{told_text}
-use Rattle.call_ends.proofs.Ending.{said, said_as}
+use Rattle.command_line.proofs.Ending.{said, said_as}
 use Rattle.bundle_calls.specs.Judge.{told_status}
 use Rattle.bundle_calls.proofs.judging.judge_bytes.Goals as goal
 

@@ -1,7 +1,7 @@
 use Rattle.std.proofs.Common.{◌≡◌, ◌≢◌, refl}
 use Rattle.cert_judge.specs.declared.judgement.Judgement.{Judgement}
 use Rattle.cert_judge.specs.declared.judgement.Judgement.TheVariants.{BadLine, Inconsistent, WildGuess, WrongSize, UnseenAnswer, Figure, Fixes, Beaten}
-use Rattle.call_ends.specs.declared.status.Status.TheVariants.{Partial}
+use Rattle.command_line.specs.declared.status.Status.TheVariants.{Partial}
 use Rattle.bundle_calls.specs.Judge.{told_status}
 use Rattle.bundle_calls.proofs.judging.told_status.Goals as goal
 

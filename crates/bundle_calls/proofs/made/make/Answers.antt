@@ -1,7 +1,7 @@
 use Rattle.std.proofs.Common.{refl, ◌∙◌}
 use Rattle.std.proofs.KnownBytes.{Keeps-refl}
-use Rattle.call_ends.specs.declared.status.Status.TheVariants.{Done}
-use Rattle.call_ends.proofs.Ending.{said, said_as, ends_written}
+use Rattle.command_line.specs.declared.status.Status.TheVariants.{Done}
+use Rattle.command_line.proofs.Ending.{said, said_as, ends_written}
 use Rattle.bundle_calls.proofs.MadeLaws.{text_is}
 use Rattle.bundle_calls.proofs.made.make.Goals as goal
 

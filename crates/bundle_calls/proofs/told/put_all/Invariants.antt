@@ -1,5 +1,5 @@
 use Rattle.std.proofs.Common.{◌≡◌, ℕ, drop}
-use Rattle.object_map.specs.Values.{value_of}
+use Rattle.containers.specs.Values.{value_of}
 use Rattle.topk_theory.specs.Bounds.{grade_among}
 use Rattle.bundle_calls.proofs.told.put_all.Given as goal
 

@@ -1,5 +1,5 @@
-use Rattle.line_text.specs.Lines.{lines}
-use Rattle.line_text.proofs.LineLaws.{lines_have_no_end}
+use Rattle.topk_base.specs.Lines.{lines}
+use Rattle.topk_base.proofs.LineLaws.{lines_have_no_end}
 use Rattle.bundle_text.proofs.Outcome.{lines_of_text, result_found, result_reads, result_fault}
 use Rattle.bundle_text.proofs.bundle.read_bundle.Goals as goal
 

@@ -1,6 +1,6 @@
 use Rattle.std.proofs.Common.{sym, ◌∙◌, ap, Ok, Err}
-use Rattle.line_text.specs.Lines.{lines}
-use Rattle.line_text.proofs.LineLaws.{lines-nil}
+use Rattle.topk_base.specs.Lines.{lines}
+use Rattle.topk_base.proofs.LineLaws.{lines-nil}
 use Rattle.bundle_text.specs.Tracking.{front_of}
 use Rattle.bundle_text.proofs.ReadLaws.{ends_alone, ends_before_more}
 use Rattle.bundle_text.proofs.bundle.read_end.Goals as goal

@@ -1,6 +1,6 @@
 use Rattle.std.proofs.Common.{sym, ◌∙◌, ap, subst}
-use Rattle.line_text.specs.Lines.{lines}
-use Rattle.line_text.proofs.LineLaws.{lines-nil}
+use Rattle.topk_base.specs.Lines.{lines}
+use Rattle.topk_base.proofs.LineLaws.{lines-nil}
 use Rattle.bundle_text.specs.Reading.{read_on}
 use Rattle.bundle_text.specs.Tracking.{GivesBundle}
 use Rattle.bundle_text.proofs.ReadLaws.{read_all-none, read_all-first}

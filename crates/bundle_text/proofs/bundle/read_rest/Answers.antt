@@ -1,6 +1,6 @@
 use Rattle.std.proofs.Common.{sym, ◌∙◌, ap, subst, arith, ◌+◌}
-use Rattle.line_text.specs.Lines.{lines}
-use Rattle.line_text.proofs.LineLaws.{lines-nil}
+use Rattle.topk_base.specs.Lines.{lines}
+use Rattle.topk_base.proofs.LineLaws.{lines-nil}
 use Rattle.bundle_text.specs.Reading.{part_read, read_on}
 use Rattle.bundle_text.specs.Tracking.{front_of, GivesBundle}
 use Rattle.bundle_text.proofs.ReadLaws.{read_on-nil, read_on-takes, read_on-refuses, read_on-query, no_query}

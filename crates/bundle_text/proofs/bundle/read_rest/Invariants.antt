@@ -1,5 +1,5 @@
 use Rattle.std.proofs.Common.{◌≡◌, ◌+◌, ◌≤◌, length}
-use Rattle.line_text.specs.Lines.{lines}
+use Rattle.topk_base.specs.Lines.{lines}
 use Rattle.bundle_text.specs.Reading.{read_on}
 use Rattle.bundle_text.specs.Tracking.{front_of, IsTracked}
 use Rattle.bundle_text.proofs.bundle.read_rest.Given as goal

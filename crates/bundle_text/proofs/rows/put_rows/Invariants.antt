@@ -1,5 +1,5 @@
 use Rattle.std.proofs.Common.{length, map, take}
-use Rattle.line_text.specs.Lines.{unlines}
+use Rattle.topk_base.specs.Lines.{unlines}
 use Rattle.bundle_text.specs.Bundle.{row_line}
 use Rattle.tk_io.specs.Pieces.{Puts}
 use Rattle.bundle_text.proofs.rows.put_rows.Given as goal

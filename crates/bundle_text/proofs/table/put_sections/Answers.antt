@@ -1,5 +1,5 @@
 use Rattle.std.proofs.Common.{List, ◌+◌, subst, arith}
-use Rattle.line_text.specs.Lines.{unlines}
+use Rattle.topk_base.specs.Lines.{unlines}
 use Rattle.ranked_list.specs.declared.row.Row.{Row}
 use Rattle.bundle_text.specs.Bundle.{section}
 use Rattle.tk_io.specs.Pieces.{Puts}

@@ -1,6 +1,6 @@
 use Rattle.std.proofs.Common.{◌++◌, map, sym, ap, ◌∙◌, append-nil}
-use Rattle.line_text.specs.Lines.{lines}
-use Rattle.line_text.proofs.LineLaws.{lines-nil}
+use Rattle.topk_base.specs.Lines.{lines}
+use Rattle.topk_base.proofs.LineLaws.{lines-nil}
 use Rattle.catalog_run.proofs.command.lines_of.Goals as goal
 
 pub returns : goal.returns

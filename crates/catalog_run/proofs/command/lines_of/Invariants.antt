@@ -1,5 +1,5 @@
 use Rattle.std.proofs.Common.{◌≡◌, ◌++◌, map, length}
-use Rattle.line_text.specs.Lines.{lines}
+use Rattle.topk_base.specs.Lines.{lines}
 use Rattle.catalog_run.proofs.command.lines_of.Given as goal
 
 -- the lines so far and those of the rest are the lines of the text

@@ -1,8 +1,8 @@
 use Rattle.std.proofs.Common.{refl, sym, subst}
 use Rattle.std.proofs.KnownBytes.{Keeps-refl}
-use Rattle.call_ends.specs.Calls.{output_as}
+use Rattle.command_line.specs.Calls.{output_as}
 use Rattle.catalog_run.specs.Faults.{SaysFault}
-use Rattle.call_ends.specs.declared.status.Status.TheVariants.{Memory}
+use Rattle.command_line.specs.declared.status.Status.TheVariants.{Memory}
 use Rattle.catalog_run.proofs.command.refuse.Goals as goal
 
 pub returns-in-CatalogLine-clause-says : goal.returns-in-CatalogLine-clause-says

@@ -3,9 +3,9 @@ use Rattle.std.specs.List.{concat}
 use Rattle.std.specs.Fmt.{decimal}
 use Rattle.tk_io.specs.Pieces.{Puts, written_to}
 use Rattle.tk_io.proofs.Putting.{puts_then, puts_written}
-use Rattle.call_ends.specs.declared.status.Status.TheVariants.{BadCatalog}
+use Rattle.command_line.specs.declared.status.Status.TheVariants.{BadCatalog}
 use Rattle.catalog_run.specs.Running.{catalog_refused_text}
-use Rattle.call_ends.proofs.Ending.{said}
+use Rattle.command_line.proofs.Ending.{said}
 use Rattle.catalog_run.proofs.command.refuse_catalog.Goals as goal
 
 pub returns-clause-counts : goal.returns-clause-counts

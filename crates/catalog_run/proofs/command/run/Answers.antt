@@ -1,15 +1,15 @@
 use Rattle.std.proofs.Common.{◌≡◌, ◌∙◌, ℕ, List, Bor, Err, ap, arith, map, refl, subst, sym}
 use Rattle.std.proofs.KnownBytes.{Keeps-refl}
-use Rattle.line_text.specs.Lines.{lines}
+use Rattle.topk_base.specs.Lines.{lines}
 use Rattle.csv_records.specs.Records.{records_of}
 use Rattle.source_api.specs.Places.{HasTextCause}
 use Rattle.catalog_text.specs.Catalog.{IsCatalog}
 use Rattle.catalog_text.specs.Judging.{Judges}
-use Rattle.call_ends.specs.Calls.{Call, call_at, output_as}
-use Rattle.call_ends.specs.Ends.{Says}
-use Rattle.call_ends.specs.Shelves.{Shelf, GivesText}
-use Rattle.call_ends.specs.declared.status.Status.TheVariants.{Memory}
-use Rattle.call_ends.proofs.Ending.{outside_at, shelf_at}
+use Rattle.command_line.specs.Calls.{Call, call_at, output_as}
+use Rattle.command_line.specs.Ends.{Says}
+use Rattle.command_line.specs.Shelves.{Shelf, GivesText}
+use Rattle.command_line.specs.declared.status.Status.TheVariants.{Memory}
+use Rattle.command_line.proofs.Ending.{outside_at, shelf_at}
 use Rattle.catalog_run.specs.RunEnds.{EndsRunning, RunsOverCatalog, from_shelf}
 use Rattle.catalog_run.specs.Running.{lines_run, outcomes_text, run_status}
 use Rattle.catalog_run.specs.Cut.{IsCutRun}

@@ -3,7 +3,7 @@ use Rattle.std.specs.Prelude.{if◌then◌else◌}
 use Rattle.std.proofs.lemmas.Iterator.{YieldsList-from_slice}
 use Rattle.std.proofs.lemmas.Iterator.Search.{all_from_yields_List}
 use Rattle.catalog_run.specs.Running.{is_answer}
-use Rattle.call_ends.specs.declared.status.Status.TheVariants.{Done, Partial}
+use Rattle.command_line.specs.declared.status.Status.TheVariants.{Done, Partial}
 use Rattle.catalog_run.proofs.line_outcomes.run_status.Goals as goal
 
 pub returns-then-all : goal.returns-then-all

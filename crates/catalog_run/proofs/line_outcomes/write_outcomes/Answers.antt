@@ -1,7 +1,7 @@
 use Rattle.std.proofs.Common.{rules, ◌≡◌, ◌∙◌, refl}
 use Rattle.tk_io.proofs.Putting.{puts_written}
 use Rattle.catalog_run.specs.Running.{outcomes_text, run_status}
-use Rattle.call_ends.proofs.Ending.{said, said_as}
+use Rattle.command_line.proofs.Ending.{said, said_as}
 use Rattle.catalog_run.proofs.line_outcomes.write_outcomes.Goals as goal
 
 pub returns-clause-counts : goal.returns-clause-counts

@@ -2,7 +2,7 @@ use Rattle.std.proofs.Common.{◌∙◌, ap}
 use Rattle.monotone_fn.specs.Value.{value}
 use Rattle.topk_theory.specs.Threshold.{item_objects}
 use Rattle.access_log.specs.Log.{Log}
-use Rattle.guarantee.specs.Guarantee.{guarantee_by}
+use Rattle.cert_text.specs.Guarantee.{guarantee_by}
 use Rattle.cert_judge.proofs.Comparing.{factors_same}
 use Rattle.cert_judge.proofs.figures.guarantees_so.Goals as goal
 

@@ -1,5 +1,5 @@
 use Rattle.std.proofs.Common.{sym, subst, arith}
-use Rattle.line_text.specs.Lines.{lines}
+use Rattle.topk_base.specs.Lines.{lines}
 use Rattle.cert_judge.specs.Judging.{Tells}
 use Rattle.cert_judge.specs.declared.judgement.Judgement.TheVariants.{BadLine}
 use Rattle.cert_judge.proofs.Telling.{few_accesses, told_result, told_no_certificate}

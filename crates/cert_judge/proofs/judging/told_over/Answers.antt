@@ -1,7 +1,7 @@
 use Rattle.std.proofs.Common.{◌∙◌, Ok, Err, subst, sym, ap, length, arith}
 use Rattle.monotone_fn.specs.Value.{value}
 use Rattle.cert_text.specs.Certificate.{guaranteed}
-use Rattle.judge_core.specs.declared.verdict.JudgeFault.TheVariants.{UnseenAnswer}
+use Rattle.cert_judge.specs.declared.verdict.JudgeFault.TheVariants.{UnseenAnswer}
 use Rattle.cert_judge.specs.Judging.{JudgesBy, IsJudged}
 use Rattle.cert_judge.proofs.Telling.{judged_as}
 use Rattle.cert_judge.proofs.judging.told_over.Goals as goal

@@ -1,7 +1,7 @@
 use Rattle.std.proofs.Common.{ℕ, List, [], ◌∷◌, ◌++◌, codes, arith}
 use Rattle.tk_io.proofs.Putting.{puts_none, puts_then, puts_as, puts_next, puts_all}
 use Rattle.std.specs.List.{flat_map, zip}
-use Rattle.line_text.specs.Lines.{unlines}
+use Rattle.topk_base.specs.Lines.{unlines}
 use Rattle.ranked_list.specs.declared.row.Row.{Row}
 use Rattle.bundle_text.specs.Bundle.{content, section}
 use Rattle.cert_judge.proofs.Putting.{bundle_text, zipped_here, zipped_length}

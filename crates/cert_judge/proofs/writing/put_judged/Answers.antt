@@ -1,6 +1,6 @@
 use Rattle.std.proofs.Common.{[], ◌∷◌, ◌++◌}
 use Rattle.tk_io.proofs.Putting.{puts_then}
-use Rattle.line_text.specs.Lines.{unlines}
+use Rattle.topk_base.specs.Lines.{unlines}
 use Rattle.bundle_text.specs.Bundle.{content, bundle_lines}
 use Rattle.cert_judge.specs.Text.{told_text, beaten_line}
 use Rattle.cert_judge.proofs.Refusing.{not_beaten}

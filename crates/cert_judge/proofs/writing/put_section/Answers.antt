@@ -1,6 +1,6 @@
 use Rattle.std.proofs.Common.{[], ◌∷◌, ◌++◌, map, codes, ap, append_assoc}
 use Rattle.tk_io.proofs.Putting.{puts_then, puts_as}
-use Rattle.line_text.specs.Lines.{unlines}
+use Rattle.topk_base.specs.Lines.{unlines}
 use Rattle.bundle_text.specs.Bundle.{row_line}
 use Rattle.cert_judge.proofs.writing.put_section.Goals as goal
 

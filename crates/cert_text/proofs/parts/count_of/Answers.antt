@@ -1,6 +1,6 @@
 use Rattle.std.proofs.Common.{◌≡◌, ℕ, List, codes, Option, Some, Bor, option_map, option_and_then, sym, ap, ◌∙◌}
-use Rattle.line_text.specs.Cuts.{rest_after}
-use Rattle.limits.specs.declared.TheConstants.{MAX_OBJECTS}
+use Rattle.topk_base.specs.Cuts.{rest_after}
+use Rattle.topk_base.specs.declared.TheConstants.{MAX_OBJECTS}
 use Rattle.cert_text.specs.Parts.{number_within, count_in}
 use Rattle.cert_text.proofs.parts.count_of.Goals as goal
 

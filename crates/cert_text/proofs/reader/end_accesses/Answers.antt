@@ -1,6 +1,6 @@
 use Rattle.std.proofs.Common.{refl, ap, ◌∙◌, ◌+◌}
-use Rattle.line_text.specs.Lines.{lines}
-use Rattle.line_text.proofs.LineLaws.{lines-nil}
+use Rattle.topk_base.specs.Lines.{lines}
+use Rattle.topk_base.proofs.LineLaws.{lines-nil}
 use Rattle.cert_text.specs.Judging.{SpellsNone}
 use Rattle.cert_text.proofs.JudgingLaws.{finds_first, judged_here}
 use Rattle.cert_text.proofs.SpellLaws.{none_some, none_here}

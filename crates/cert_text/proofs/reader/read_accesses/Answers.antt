@@ -1,5 +1,5 @@
 use Rattle.std.proofs.Common.{◌≡◌, ◌≢◌, ◌+◌, [], ◌∷◌, ◌++◌, codes, sym, arith}
-use Rattle.line_text.specs.Lines.{lines}
+use Rattle.topk_base.specs.Lines.{lines}
 use Rattle.cert_text.specs.Judging.{SpellsNone, SpellsAccesses}
 use Rattle.cert_text.proofs.JudgingLaws.{finds_same, finds_here, judged_here, judged_end}
 use Rattle.cert_text.proofs.SpellLaws.{accesses_none, accesses_more, accesses_ended, accesses_some, accesses_end, accesses_here}

@@ -1,6 +1,6 @@
 use Rattle.std.proofs.Common.{◌≡◌, ◌+◌, [], ◌∷◌, ◌++◌, Ok, sym, arith}
 use Rattle.std.proofs.lemmas.Result.{err_from_is_err_and}
-use Rattle.line_text.specs.Lines.{lines}
+use Rattle.topk_base.specs.Lines.{lines}
 use Rattle.cert_text.specs.Judging.{SpellsEnding, SpellsFound, ending_of, found_of}
 use Rattle.cert_text.proofs.JudgingLaws.{finds_fault, finds_here, judged_end}
 use Rattle.cert_text.proofs.SpellLaws.{ended, found_none, found_more, found_ending, found_some, found_end}

@@ -1,5 +1,5 @@
 use Rattle.std.proofs.Common.{◌≡◌, ℕ, ◌+◌, ◌≤◌, ◌++◌, length}
-use Rattle.line_text.specs.Lines.{lines}
+use Rattle.topk_base.specs.Lines.{lines}
 use Rattle.cert_text.specs.Judging.{SpellsFound}
 use Rattle.cert_text.proofs.JudgingLaws.{Carries}
 use Rattle.cert_text.proofs.reader.read_found.Given as goal

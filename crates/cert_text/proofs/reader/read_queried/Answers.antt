@@ -1,6 +1,6 @@
 use Rattle.std.proofs.Common.{◌+◌, Ok, Err, refl, subst}
-use Rattle.line_text.specs.Lines.{lines}
-use Rattle.guarantee.specs.Guarantee.{has_guarantee}
+use Rattle.topk_base.specs.Lines.{lines}
+use Rattle.cert_text.specs.Guarantee.{has_guarantee}
 use Rattle.cert_text.specs.Judging.{Finds, SpellsCounted, SpellsQueried, counted_of, queried_of}
 use Rattle.cert_text.proofs.JudgingLaws.{finds_first, finds_fault, judged_here, judged_end, carries_line}
 use Rattle.cert_text.proofs.SpellLaws.{steps_query, queried_end, queried_here}

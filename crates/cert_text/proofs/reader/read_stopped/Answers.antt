@@ -1,7 +1,7 @@
 use Rattle.std.proofs.Common.{◌+◌, Ok, refl, sym}
 use Rattle.std.specs.Global.{Vec}
 use Rattle.std.proofs.lemmas.Result.{err_from_is_err_and}
-use Rattle.line_text.specs.Lines.{lines}
+use Rattle.topk_base.specs.Lines.{lines}
 use Rattle.topk_theory.specs.declared.access.Access.{Access}
 use Rattle.cert_text.specs.declared.parts.Figures.{Figures}
 use Rattle.cert_text.specs.Judging.{SpellsAccesses, SpellsStopped}

@@ -7,7 +7,7 @@ use Rattle.std.proofs.lemmas.Option.{slice_get-get_or}
 use Rattle.std.proofs.lemmas.Result.{err_from_is_err_and}
 use Rattle.query_text.specs.Bytes.{bytes_of}
 use Rattle.query_text.proofs.NamesPassed.{names_given}
-use Rattle.line_text.specs.Lines.{lines}
+use Rattle.topk_base.specs.Lines.{lines}
 use Rattle.cert_text.specs.declared.reader.Results.{Results}
 use Rattle.cert_text.specs.Judging.{SpellsFound, SpellsVersioned, found_of}
 use Rattle.cert_text.proofs.JudgingLaws.{finds_fault}

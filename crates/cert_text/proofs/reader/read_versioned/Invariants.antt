@@ -1,5 +1,5 @@
 use Rattle.std.proofs.Common.{◌+◌, ◌≤◌, drop, length}
-use Rattle.line_text.specs.Lines.{lines}
+use Rattle.topk_base.specs.Lines.{lines}
 use Rattle.cert_text.proofs.VersionLaws.{ReadsVersions}
 use Rattle.cert_text.proofs.reader.read_versioned.Given as goal
 

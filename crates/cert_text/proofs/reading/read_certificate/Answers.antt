@@ -1,4 +1,4 @@
-use Rattle.line_text.specs.Lines.{lines}
+use Rattle.topk_base.specs.Lines.{lines}
 use Rattle.cert_text.specs.Outcome.{certificate_of}
 use Rattle.cert_text.proofs.CertifiedLaws.{certified_spelled}
 use Rattle.cert_text.proofs.CertificateLaws.{finds_found, finds_reads, finds_fault_line}

@@ -1,6 +1,6 @@
 use Rattle.std.proofs.Common.{Ok, refl, sym}
 use Rattle.std.proofs.lemmas.Result.{err_from_is_err_and}
-use Rattle.line_text.specs.Lines.{lines}
+use Rattle.topk_base.specs.Lines.{lines}
 use Rattle.cert_text.specs.declared.certificate.Certificate.{Certificate}
 use Rattle.cert_text.specs.Judging.{SpellsQueried, queried_of}
 use Rattle.cert_text.specs.Reading.{Spells}

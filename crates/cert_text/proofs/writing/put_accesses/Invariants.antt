@@ -1,5 +1,5 @@
 use Rattle.std.proofs.Common.{length, map, take}
-use Rattle.line_text.specs.Lines.{unlines}
+use Rattle.topk_base.specs.Lines.{unlines}
 use Rattle.tk_io.specs.Pieces.{Puts}
 use Rattle.cert_text.specs.Certificate.{access_line}
 use Rattle.cert_text.proofs.writing.put_accesses.Given as goal

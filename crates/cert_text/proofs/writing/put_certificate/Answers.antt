@@ -1,9 +1,9 @@
 use Rattle.std.proofs.Common.{[], ◌∷◌, ◌++◌, map, codes, sym, ap, ◌∙◌}
-use Rattle.line_text.specs.Lines.{unlines}
-use Rattle.line_text.proofs.LineLaws.{unlines-append}
+use Rattle.topk_base.specs.Lines.{unlines}
+use Rattle.topk_base.proofs.LineLaws.{unlines-append}
 use Rattle.tk_io.proofs.Putting.{puts_as, puts_then}
 use Rattle.query_text.specs.Query.{printed}
-use Rattle.guarantee.proofs.Factors.{factor_again}
+use Rattle.cert_text.proofs.Factors.{factor_again}
 use Rattle.cert_text.specs.Certificate.{number_line, query_line, count_line, version_lines, answer_line, guarantee_lines, guaranteed, access_line, access_lines}
 use Rattle.cert_text.specs.Outcome.{figures_line, factor_for, certificate_of}
 use Rattle.cert_text.proofs.writing.put_certificate.Goals as goal

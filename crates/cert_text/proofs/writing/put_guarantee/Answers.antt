@@ -1,7 +1,7 @@
 use Rattle.std.proofs.Common.{ap, ◌∙◌, append-nil, option_map}
-use Rattle.line_text.specs.Lines.{unlines}
+use Rattle.topk_base.specs.Lines.{unlines}
 use Rattle.tk_io.proofs.Putting.{puts_none, puts_as}
-use Rattle.guarantee.specs.Guarantee.{factor_of}
+use Rattle.cert_text.specs.Guarantee.{factor_of}
 use Rattle.cert_text.specs.Certificate.{guarantee_lines}
 use Rattle.cert_text.proofs.writing.put_guarantee.Goals as goal
 

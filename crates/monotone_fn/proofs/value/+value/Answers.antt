@@ -1,7 +1,7 @@
 -- Each step of a walk over nodes.
 use Rattle.std.proofs.Common.{◌≡◌, ℕ, [], ◌+◌, ◌*◌, ◌-◌, ◌^◌, ◌<◌, ◌≤◌, ◌++◌, min, List, length, map, drop, sum, sym, ap, ◌∙◌, subst, arith, length-append}
 use Rattle.std.proofs.lemmas.List.{drop_all, append-nil}
-use Rattle.limits.specs.declared.TheConstants.{MAX_NODES}
+use Rattle.topk_base.specs.declared.TheConstants.{MAX_NODES}
 use Rattle.monotone_fn.specs.Tree.{Tree, trees, terms}
 use Rattle.monotone_fn.specs.Shape.{nodes_of, nodes_in, nodes_under, list_count_in, list_count_under}
 use Rattle.monotone_fn.specs.Value.{value, values, products}

@@ -1,6 +1,6 @@
 use Rattle.std.proofs.Common.{sym, ap, ◌∙◌, arith}
 use Rattle.std.proofs.lemmas.Option.{same_Some}
-use Rattle.indexed_heap.specs.declared.slots.Entry.{Entry}
+use Rattle.containers.specs.declared.slots.Entry.{Entry}
 use Rattle.nra_core.proofs.late.least_low.Goals as goal
 
 pub returns : goal.returns

@@ -1,7 +1,7 @@
 use Rattle.std.proofs.Common.{inl, inr, refl, sym, ap, ◌∙◌, arith}
 use Rattle.std.proofs.lemmas.Option.{slice_get_within}
 use Rattle.monotone_fn.specs.Value.{value}
-use Rattle.indexed_heap.specs.Slots.{Slots}
+use Rattle.containers.specs.Slots.{Slots}
 use Rattle.nra_core.proofs.Walked.{candidate_within, one_less}
 use Rattle.nra_core.proofs.Within.{none_above_greatest, none_above_nothing, all_within, one_against, candidate_absent, goes_on_without, goes_on_exchanged}
 use Rattle.nra_core.proofs.walk.are_others_within.Goals as goal

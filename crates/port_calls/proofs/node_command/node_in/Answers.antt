@@ -1,7 +1,7 @@
 use Rattle.std.proofs.Common.{◌≡◌, ◌∙◌, Some, None, option_map, sym, ap, refl, subst}
-use Rattle.call_ends.specs.Calls.{Call, output_as, shelf_as, outside_of, call_at}
-use Rattle.call_ends.specs.Ends.{Says}
-use Rattle.call_ends.specs.declared.status.Status.TheVariants.{Partial}
+use Rattle.command_line.specs.Calls.{Call, output_as, shelf_as, outside_of, call_at}
+use Rattle.command_line.specs.Ends.{Says}
+use Rattle.command_line.specs.declared.status.Status.TheVariants.{Partial}
 use Rattle.port_calls.specs.Named.{place_named}
 use Rattle.port_calls.specs.NodeTexts.{unlisted_text}
 use Rattle.port_calls.specs.Ports.{ports_of}

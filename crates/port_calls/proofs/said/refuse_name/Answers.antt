@@ -2,8 +2,8 @@ use Rattle.std.proofs.Common.{rules, ◌≡◌, ◌∙◌, List, ℕ, [], ◌∷
 use Rattle.std.specs.List.{concat}
 use Rattle.tk_io.specs.Pieces.{Puts, Writes, written_to}
 use Rattle.tk_io.proofs.Putting.{puts_then, puts_written}
-use Rattle.call_ends.specs.declared.status.Status.TheVariants.{Partial}
-use Rattle.call_ends.proofs.Ending.{said}
+use Rattle.command_line.specs.declared.status.Status.TheVariants.{Partial}
+use Rattle.command_line.proofs.Ending.{said}
 use Rattle.port_calls.specs.NodeTexts.{unlisted_text}
 use Rattle.port_calls.proofs.said.refuse_name.Given as given
 use Rattle.port_calls.proofs.said.refuse_name.Goals as goal

@@ -3,8 +3,8 @@ use Rattle.std.specs.List.{concat}
 use Rattle.std.specs.Fmt.{decimal}
 use Rattle.tk_io.specs.Pieces.{Puts, Writes, written_to}
 use Rattle.tk_io.proofs.Putting.{puts_then, puts_written}
-use Rattle.call_ends.specs.declared.status.Status.TheVariants.{Done}
-use Rattle.call_ends.proofs.Ending.{said}
+use Rattle.command_line.specs.declared.status.Status.TheVariants.{Done}
+use Rattle.command_line.proofs.Ending.{said}
 use Rattle.port_calls.specs.NodeTexts.{served_text}
 use Rattle.port_calls.proofs.said.say_served.Given as given
 use Rattle.port_calls.proofs.said.say_served.Goals as goal

@@ -4,9 +4,9 @@ use Rattle.csv_records.specs.Records.{records_of}
 use Rattle.source_api.specs.declared.source.Trouble.TheVariants.{Fail}
 use Rattle.catalog_text.specs.Catalog.{IsCatalog}
 use Rattle.catalog_text.specs.Judging.{Judges}
-use Rattle.call_ends.specs.Calls.{Call, output_as, outside_of, call_at}
-use Rattle.call_ends.specs.Shelves.{Shelf, GivesText}
-use Rattle.call_ends.proofs.Ending.{shelf_at}
+use Rattle.command_line.specs.Calls.{Call, output_as, outside_of, call_at}
+use Rattle.command_line.specs.Shelves.{Shelf, GivesText}
+use Rattle.command_line.proofs.Ending.{shelf_at}
 use Rattle.catalog_run.specs.RunEnds.{from_shelf}
 use Rattle.catalog_run.proofs.RunEnding.{asks_text, text_failed, text_given, text_refused}
 use Rattle.port_calls.specs.Ports.{ports_of}

@@ -1,7 +1,7 @@
 use Rattle.std.proofs.Common.{◌≡◌, ◌∙◌, ap, inl, refl}
 use Rattle.query_server.specs.Entries.{Openings}
-use Rattle.call_ends.specs.Shelves.{Shelf}
-use Rattle.call_ends.proofs.Ending.{shelf_at}
+use Rattle.command_line.specs.Shelves.{Shelf}
+use Rattle.command_line.proofs.Ending.{shelf_at}
 use Rattle.port_calls.specs.Ports.{ports_of}
 use Rattle.port_calls.proofs.ListLaws.{borrows_all, borrows_from, lists_end}
 use Rattle.port_calls.proofs.server_serving.serve_lists.Goals as goal

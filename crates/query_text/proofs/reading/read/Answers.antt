@@ -3,7 +3,7 @@ use Rattle.query_text.specs.declared.fault.QueryFault.TheVariants.{LongLine}
 use Rattle.query_text.proofs.AnswerLaws.{draft_numbered, reads_finish, reads_fault}
 use Rattle.query_text.proofs.BackLaws.{read_back}
 use Rattle.query_text.proofs.reading.read.Goals as goal
-use Rattle.limits.specs.declared.TheConstants.{MAX_LINE}
+use Rattle.topk_base.specs.declared.TheConstants.{MAX_LINE}
 
 pub finish-requires-clause-numbered : goal.finish-requires-clause-numbered
 finish-requires-clause-numbered c = draft_numbered c.args.bytes.now c.in-Ok.draft c.in-Ok.ensures

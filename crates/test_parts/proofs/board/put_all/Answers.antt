@@ -1,6 +1,6 @@
 use Rattle.std.proofs.Common.{length, ap, ◌∙◌, arith}
-use Rattle.best_k.specs.Held.{Held}
-use Rattle.best_k.proofs.HeldLaws.{length-put_item}
+use Rattle.machine_base.specs.Held.{Held}
+use Rattle.machine_base.proofs.HeldLaws.{length-put_item}
 use Rattle.test_parts.proofs.board.put_all.Goals as goal
 
 pub loop-object-preserved : goal.loop-object-preserved

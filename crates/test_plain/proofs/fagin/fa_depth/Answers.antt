@@ -1,5 +1,5 @@
 use Rattle.std.proofs.Common.{◌∙◌, sym}
-use Rattle.fa_theory.specs.Fagin.{fa_stop}
+use Rattle.algorithm_theory.specs.Fagin.{fa_stop}
 use Rattle.test_plain.proofs.Least.{least_more}
 use Rattle.test_plain.proofs.fagin.fa_depth.Goals as goal
 

@@ -1,6 +1,6 @@
 use Rattle.std.proofs.Common.{◌≡◌, ◌-◌}
 use Rattle.topk_theory.specs.Threshold.{least_from}
-use Rattle.fa_theory.specs.Fagin.{fa_stop}
+use Rattle.algorithm_theory.specs.Fagin.{fa_stop}
 use Rattle.test_plain.proofs.fagin.fa_depth.Given as goal
 
 abbrev pub invariant-loop-depth : goal.invariant-loop-depth

@@ -1,7 +1,7 @@
 use Rattle.std.proofs.Common.{◌≡◌, ◌∙◌, ℕ, Bool, nat_le, length, filter, ap, arith, rules}
 use Rattle.std.proofs.lemmas.Fn.{filter_same}
 use Rattle.std.proofs.lemmas.List.Sums.{length-filter}
-use Rattle.fa_theory.specs.Fagin.{stands_in_all}
+use Rattle.algorithm_theory.specs.Fagin.{stands_in_all}
 use Rattle.test_plain.proofs.fagin.fa_stop.Goals as goal
 
 pub returns : goal.returns

@@ -1,11 +1,11 @@
 use Rattle.std.proofs.Common.{Some, None, Err, refl, ap, ◌∙◌}
 use Rattle.std.proofs.KnownBytes.{Keeps-refl}
-use Rattle.command_words.specs.Commands.{command_of}
-use Rattle.command_words.specs.declared.command.Command.TheVariants.{One, Judge, Compare, Make, Run, Bulk, Node, Serve}
-use Rattle.call_ends.specs.Calls.{Input, Outside, call_at}
-use Rattle.call_ends.specs.Shelves.{Shelf}
-use Rattle.call_ends.specs.declared.status.Status.TheVariants.{Memory}
-use Rattle.call_ends.proofs.Ending.{outside_at, shelf_at}
+use Rattle.command_line.specs.Commands.{command_of}
+use Rattle.command_line.specs.declared.command.Command.TheVariants.{One, Judge, Compare, Make, Run, Bulk, Node, Serve}
+use Rattle.command_line.specs.Calls.{Input, Outside, call_at}
+use Rattle.command_line.specs.Shelves.{Shelf}
+use Rattle.command_line.specs.declared.status.Status.TheVariants.{Memory}
+use Rattle.command_line.proofs.Ending.{outside_at, shelf_at}
 use Rattle.port_calls.specs.Ports.{Ports, ports_of}
 use Rattle.topk_top.proofs.Ending.{ends_as, ends_refused, ends_without_memory}
 use Rattle.topk_top.proofs.call.top.Goals as goal

@@ -1,10 +1,10 @@
 use Rattle.std.proofs.Common.{[], refl}
 use Rattle.std.proofs.KnownBytes.{Keeps-refl}
-use Rattle.command_words.specs.Commands.{command_of}
-use Rattle.call_ends.specs.Calls.{Outside, call_at}
-use Rattle.call_ends.specs.Shelves.{Shelf}
-use Rattle.call_ends.specs.declared.status.Status.TheVariants.{Memory}
-use Rattle.call_ends.proofs.Ending.{outside_at, shelf_at}
+use Rattle.command_line.specs.Commands.{command_of}
+use Rattle.command_line.specs.Calls.{Outside, call_at}
+use Rattle.command_line.specs.Shelves.{Shelf}
+use Rattle.command_line.specs.declared.status.Status.TheVariants.{Memory}
+use Rattle.command_line.proofs.Ending.{outside_at, shelf_at}
 use Rattle.port_calls.specs.Ports.{Ports, ports_of}
 use Rattle.topk_top.proofs.Ending.{ends_without_memory}
 use Rattle.topk_top.proofs.process.run_process.Goals as goal

@@ -1,6 +1,6 @@
 use Rattle.std.proofs.Common.{◌≡◌, ◌<◌, true, length, arith, rules}
 use Rattle.std.specs.Str.{all_ascii_digits}
-use Rattle.line_text.proofs.NumberLaws.{list_all_digits}
+use Rattle.topk_base.proofs.NumberLaws.{list_all_digits}
 use Rattle.wire.proofs.FindLaws.{stated_is}
 use Rattle.wire.proofs.framing.stated_length.Goals as goal
 

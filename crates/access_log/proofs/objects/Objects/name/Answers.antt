@@ -1,5 +1,5 @@
 use Rattle.std.proofs.Common.{◌++◌, ◌∷◌, [], sym, ap, refl, subst}
-use Rattle.object_map.specs.Keys.{Keys}
+use Rattle.containers.specs.Keys.{Keys}
 use Rattle.access_log.specs.RecordsKept.{AreRecords}
 use Rattle.access_log.proofs.ObjectsKept.{records_named, unnamed_record, unnamed}
 use Rattle.access_log.proofs.objects.Objects.name.Goals as goal

@@ -1,5 +1,5 @@
 use Rattle.std.proofs.Common.{refl, ap, arith}
-use Rattle.object_map.specs.Keys.{Keys}
+use Rattle.containers.specs.Keys.{Keys}
 use Rattle.access_log.proofs.AheadKept.{room_wider, wider_same}
 use Rattle.access_log.proofs.ObjectsKept.{objects_wider}
 use Rattle.access_log.proofs.objects.Objects.widen.Goals as goal

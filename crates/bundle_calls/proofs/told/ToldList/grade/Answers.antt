@@ -1,5 +1,5 @@
 use Rattle.std.proofs.Common.{◌≡◌, ℕ, List, Option, Some, ap, ◌∙◌, subst}
-use Rattle.object_map.specs.Values.{Values, value_of}
+use Rattle.containers.specs.Values.{Values, value_of}
 use Rattle.ranked_list.specs.declared.row.Row.{Row}
 use Rattle.topk_theory.specs.Bounds.{grade_among}
 use Rattle.bundle_calls.specs.Grades.{AreGradesOf}

@@ -1,5 +1,5 @@
 use Rattle.std.proofs.Common.{sym, ap, ◌∙◌, subst, List}
-use Rattle.object_map.specs.Values.{value_of}
+use Rattle.containers.specs.Values.{value_of}
 use Rattle.ranked_list.specs.declared.row.Row.{Row}
 use Rattle.ranked_list.specs.Rows.{last_row, TellsObjects}
 use Rattle.bundle_text.specs.Reading.{InsideList}

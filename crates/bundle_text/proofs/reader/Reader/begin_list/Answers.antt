@@ -1,5 +1,5 @@
 use Rattle.std.proofs.Common.{◌+◌, ap}
-use Rattle.object_map.specs.Values.{value_of}
+use Rattle.containers.specs.Values.{value_of}
 use Rattle.bundle_text.specs.declared.reader.Reader.{Reader}
 use Rattle.bundle_text.proofs.TrackLaws.{next_tracked}
 use Rattle.bundle_text.proofs.reader.Reader.begin_list.Goals as goal

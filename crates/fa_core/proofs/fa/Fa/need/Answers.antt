@@ -1,5 +1,5 @@
 use Rattle.std.proofs.Common.{◌≡◌, subst, sym, ap, ◌∙◌}
-use Rattle.fa_theory.specs.Fagin.{fagin_run}
+use Rattle.algorithm_theory.specs.Fagin.{fagin_run}
 use Rattle.machine_base.specs.Machine.{MachineState, IsInRange}
 use Rattle.machine_base.proofs.MachineLaws.{in_range}
 use Rattle.fa_core.specs.Machine.{MakesItsRun}

@@ -1,6 +1,0 @@
-use Rattle.std.proofs.Common.{arith}
-use Rattle.best_k.proofs.Halving.{count_none}
-use Rattle.best_k.proofs.ranking.Ranking.last.Goals as goal
-
-pub returns-in_default : goal.returns-in_default
-returns-in_default c = let none = count_none c.args.self.now.top c.in_default.ensures.none in omega arith

@@ -1,4 +1,0 @@
-pub mod Held
-pub mod Rank
-pub mod Halves
-pub mod Kept

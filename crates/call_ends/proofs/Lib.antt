@@ -1,2 +1,0 @@
--- Lemmas on how calls end.
-pub mod Ending

@@ -1,7 +1,0 @@
-pub mod Common
-pub mod Least
-pub mod Runs
-pub mod Same
-pub mod Sight
-pub mod Top
-pub mod WorkedRows

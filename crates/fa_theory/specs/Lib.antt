@@ -1,2 +1,0 @@
--- Fagin's algorithm, the one before the threshold algorithm.
-pub mod Fagin

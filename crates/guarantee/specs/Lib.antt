@@ -1,3 +1,0 @@
--- What algorithms guarantee of their answers.
-pub mod Guarantee
-pub mod Lows

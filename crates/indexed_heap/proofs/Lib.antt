@@ -1,7 +1,0 @@
-pub mod Getting
-pub mod HeapLaws
-pub mod Placing
-pub mod Putting
-pub mod Within
-pub mod SlotChanges
-pub mod Holes

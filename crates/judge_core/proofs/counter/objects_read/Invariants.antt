@@ -1,7 +1,0 @@
-use Rattle.std.proofs.Common.{◌≡◌, ℕ, length, take}
-use Rattle.ranked_list.specs.Table.{objects}
-use Rattle.judge_core.specs.Objects.{has}
-use Rattle.judge_core.proofs.counter.objects_read.Given as goal
-
-abbrev pub invariant-loop-row : goal.invariant-loop-row
-invariant-loop-row l = (object : ℕ) → has object l.read ≡ has object (objects (take (length l.yielded) l.rows))

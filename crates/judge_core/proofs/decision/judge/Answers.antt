@@ -1,6 +1,0 @@
-use Rattle.monotone_fn.specs.Value.{value}
-use Rattle.judge_core.proofs.Telling.{exact_judges}
-use Rattle.judge_core.proofs.decision.judge.Goals as goal
-
-pub returns : goal.returns
-returns c = exact_judges (value c.args.expr.now) c.args.k c.args.transcript.now c.args.answer.now c.judge_within.result c.judge_within.ensures

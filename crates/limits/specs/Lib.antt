@@ -1,2 +1,0 @@
--- What is within the limits.
-pub mod Ranges

@@ -1,9 +1,0 @@
-use Rattle.std.proofs.lemmas.Slice.Eq.{strip_prefix_is}
-use Rattle.std.proofs.lemmas.Bool.Decides.{Decides-eqb}
-use Rattle.line_text.proofs.CutLaws.{rest_after_stripped}
-use Rattle.line_text.proofs.cuts.rest_after.Goals as goal
-
-pub returns : goal.returns
-returns c =
-    rest_after_stripped c.args.word.now c.args.text.now c.strip_prefix.result
-    (strip_prefix_is Decides-eqb c.args.text.now c.args.word.now c.strip_prefix.result c.strip_prefix.ensures.cases)

@@ -1,4 +1,0 @@
-pub mod Lines
-pub mod Numbers
-pub mod Names
-pub mod Cuts

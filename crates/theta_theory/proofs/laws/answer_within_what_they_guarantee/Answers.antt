@@ -1,8 +1,0 @@
-use Rattle.theta_theory.proofs.Nearness.{theta_within, early_within}
-use Rattle.theta_theory.proofs.laws.answer_within_what_they_guarantee.Goals as goal
-
-pub returns-clause-within : goal.returns-clause-within
-returns-clause-within c = theta_within
-
-pub returns-clause-early : goal.returns-clause-early
-returns-clause-early c = early_within

@@ -1,8 +1,0 @@
-use Rattle.theta_theory.proofs.Reading.{theta_same, early_same}
-use Rattle.theta_theory.proofs.laws.are_the_threshold_algorithm.Goals as goal
-
-pub returns-clause-within : goal.returns-clause-within
-returns-clause-within c = theta_same
-
-pub returns-clause-early : goal.returns-clause-early
-returns-clause-early c = early_same

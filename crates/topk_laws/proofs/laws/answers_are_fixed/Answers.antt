@@ -1,5 +1,0 @@
-use Rattle.topk_laws.proofs.AnswersFixed.{answers_fixed}
-use Rattle.topk_laws.proofs.laws.answers_are_fixed.Goals as goal
-
-pub returns : goal.returns
-returns c = answers_fixed

@@ -1,5 +1,0 @@
-use Rattle.topk_laws.proofs.OneOver.{one_over_told}
-use Rattle.topk_laws.proofs.laws_catalog.answers_over_told_tables_are_the_one.Goals as goal
-
-pub returns : goal.returns
-returns c = λ r outcomes run. one_over_told r outcomes run

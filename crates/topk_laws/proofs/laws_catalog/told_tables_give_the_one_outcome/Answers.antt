@@ -1,5 +1,0 @@
-use Rattle.topk_laws.proofs.Becoming.{lines_become}
-use Rattle.topk_laws.proofs.laws_catalog.told_tables_give_the_one_outcome.Goals as goal
-
-pub returns : goal.returns
-returns c = λ r outcomes run tells. lines_become r outcomes run c.queries_are_on_their_runs.ensures tells

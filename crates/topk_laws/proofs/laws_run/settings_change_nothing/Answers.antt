@@ -1,5 +1,0 @@
-use Rattle.topk_laws.proofs.ToldRuns.{settings_nothing}
-use Rattle.topk_laws.proofs.laws_run.settings_change_nothing.Goals as goal
-
-pub returns : goal.returns
-returns c = settings_nothing c.told_runs_write_the_one_text.ensures

@@ -1,5 +1,0 @@
-use Rattle.topk_laws.proofs.ToldText.{wrong_refused}
-use Rattle.topk_laws.proofs.laws_run.wrong_catalogs_are_refused.Goals as goal
-
-pub returns : goal.returns
-returns c = wrong_refused

@@ -1,9 +1,0 @@
-pub mod Least
-pub mod Lists
-pub mod Optimal
-pub mod Places
-pub mod Reading
-pub mod Runs
-pub mod Seen
-pub mod Top
-pub mod WorkedRows

@@ -1,9 +1,0 @@
-use Rattle.zlist_theory.proofs.Places.{places_asked}
-use Rattle.zlist_theory.proofs.Runs.{run_knows}
-use Rattle.zlist_theory.proofs.laws.asks_where_objects_stand_lower.Goals as goal
-
-pub returns-clause-new : goal.returns-clause-new
-returns-clause-new c = places_asked
-
-pub returns-clause-old : goal.returns-clause-old
-returns-clause-old c = λ depth object Z D seen. run_knows Z D depth object seen
