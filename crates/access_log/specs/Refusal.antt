@@ -6,7 +6,7 @@ use Rattle.access_log.specs.Log.{Log, AgreesWith, with_access, IsFirstNumber, Ha
 use Rattle.access_log.specs.declared.fault.PushFault.{PushFault}
 use Rattle.access_log.specs.declared.fault.PushFault.TheVariants.{Inconsistent, Memory}
 
--- no table agrees with the log and this access after it, which has this number and is of this first kind; memory is wanted only where no room is reserved
+-- no table agrees with the log and this access after it, which has this number and is of this first kind; memory runs out only where no room is reserved
 abbrev pub Refuses : Log → Access → PushFault → Type 0
 Refuses log access (Inconsistent at kind) =
     (at ≡ length log.accesses + 1) × IsFirstNumber log access kind × ((D : List (List Row)) → ¬ AgreesWith D (with_access log access))

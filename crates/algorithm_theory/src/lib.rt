@@ -1,12 +1,12 @@
-//! How near the best the algorithms of Fagin, Lotem and Naor read: laws over whole tables and transcripts, with no code.
+//! The algorithms over whole tables: what each reads and answers, and how near the best that is. Definitions and laws, with no code.
 //!
-//! Fagin's algorithm, which the threshold algorithm is measured against: definitions over whole tables, and laws, with no code.
+//! Fagin's algorithm (`fa_laws`), which the threshold algorithm is measured against.
 //!
-//! The threshold algorithm stopped before it has the best, within a factor or from a depth on: definitions over whole tables, with no code.
+//! The threshold algorithm stopped before it has the best, within a factor or from a depth on (`within_laws`).
 //!
-//! They say what it reads and answers and within which factor its answer is, with laws of these.
+//! The same over lists of which some can't be read in order (`restricted_laws`).
 //!
-//! The threshold algorithm over lists of which some can't be read in order: definitions over whole tables, and laws, with no code.
+//! How near the best the algorithms of Fagin, Lotem and Naor read (`near_best_laws`).
 #![tactic(auto)]
 
 pub mod fa_laws;

@@ -35,7 +35,7 @@ use Rattle.query_core.proofs.Answering.{asked_same}
 use Rattle.query_core.proofs.RestrictedFacts.{restricted_reads}
 use Rattle.query_run.specs.declared.ended.Ended.{Ended}
 use Rattle.query_run.specs.declared.ended.Ended.TheVariants as ended
-use Rattle.query_run.specs.declared.inquiry.Inquiry.{Inquiry}
+use Rattle.query_run.specs.declared.running_query.RunningQuery.{RunningQuery}
 use Rattle.query_run.specs.Endings.{EndsAs}
 use Rattle.query_run.specs.Honest.{lists_of, HasTable}
 use Rattle.query_run.specs.Kept.{IsServed}
@@ -64,7 +64,7 @@ zip_other R (w ∷ xs) (y ∷ ys) x h c =
       | inr there ↦ let rest = zip_other R xs ys x h.1 there in (rest.0, contains_there y ys rest.0 rest.1, rest.2)
     ]
 
-deep_within : (source depth : ℕ) (queries : List Inquiry) (readings : List Reading) → AllZip (AsksWithin source) queries readings
+deep_within : (source depth : ℕ) (queries : List RunningQuery) (readings : List Reading) → AllZip (AsksWithin source) queries readings
     → IsWantedBy queries source depth → depth ≤ deepest source readings
 deep_within source depth queries readings h wanted = elim wanted [
   | inl none ↦ omega (arith, none)
@@ -88,7 +88,7 @@ read_count source (r ∷ readings) =
     ∙ sym (sum_by-cons (random_in source) r readings)
 
 -- objects, each once, of which each is named by a query, are no more than the random accesses of the readings
-asks_within : (source : ℕ) (queries : List Inquiry) (readings : List Reading) (asks : List ℕ) → AllZip (AsksWithin source) queries readings
+asks_within : (source : ℕ) (queries : List RunningQuery) (readings : List Reading) (asks : List ℕ) → AllZip (AsksWithin source) queries readings
     → AllPairs (λ (one other : ℕ). one ≢ other) asks → ((object : ℕ) → Contains asks object → IsNamedBy queries source object) → length asks ≤ random_accesses source readings
 asks_within source queries readings asks h apart named =
     let all = distinct_fits asks (flat_map (objects_read source) readings) apart (λ object c.
@@ -103,10 +103,10 @@ asks_within source queries readings asks h apart named =
     omega (arith, all, count)
 
 -- the readings of queries on tables that agree with what they read
-abbrev reading_on : Inquiry → List (List Row) → Reading
+abbrev reading_on : RunningQuery → List (List Row) → Reading
 reading_on q D = record { sources = q.sources.items; accesses = run_on q D }
 
-all_on : (source : ℕ) (queries : List Inquiry) (tables : List (List (List Row))) → AllZip AgreesWithRead queries tables
+all_on : (source : ℕ) (queries : List RunningQuery) (tables : List (List (List Row))) → AllZip AgreesWithRead queries tables
     → (readings : List Reading) × AllZip (AsksWithin source) queries readings × (random_accesses source readings ≡ all_grades_on queries tables source)
 all_on source [] [] agree = ([], tt, refl)
 all_on source [] (D ∷ tables) agree = absurd agree
@@ -119,7 +119,7 @@ all_on source (q ∷ queries) (D ∷ tables) agree =
     )
 
 -- no more objects are asked than the runs on such tables ask for grades
-pub asks_on : (source : ℕ) (queries : List Inquiry) (tables : List (List (List Row))) (asks : List ℕ) → AllZip AgreesWithRead queries tables
+pub asks_on : (source : ℕ) (queries : List RunningQuery) (tables : List (List (List Row))) (asks : List ℕ) → AllZip AgreesWithRead queries tables
     → AllPairs (λ (one other : ℕ). one ≢ other) asks → ((object : ℕ) → Contains asks object → IsNamedBy queries source object)
     → length asks ≤ all_grades_on queries tables source
 asks_on source queries tables asks agree apart named =
@@ -130,7 +130,7 @@ asks_on source queries tables asks agree apart named =
 
 -- ---- one query
 -- the run of a query on its lists is its one run
-one_run : (lists : List (List Row)) (ready : Ready) (q : Inquiry) → (of : IsOf ready q)
+one_run : (lists : List (List Row)) (ready : Ready) (q : RunningQuery) → (of : IsOf ready q)
     → run_on q (lists_of lists q) ≡ one_run_with (method_of_ready ready) ready.query (lists_for lists ready)
 one_run lists ready q of =
     let t = state_of q.machine in
@@ -155,7 +155,7 @@ done_run run made at = begins_splits made run at.begins ∙ ap (λ rest. made ++
     nothing_left run made (Some (Random list object grade)) is e = absurd (cc)
 
 -- what is certain is in its transcript, where it was answered
-printed_within : (states : List State) (source : ℕ) (ready : Ready) (q : Inquiry) (end : Ended) → IsServed states q → (of : IsOf ready q) → EndsAs q end
+printed_within : (states : List State) (source : ℕ) (ready : Ready) (q : RunningQuery) (end : Ended) → IsServed states q → (of : IsOf ready q) → EndsAs q end
     → IsAnsweredOf source ready end → AsksWithin source q (printed_reading ready end)
 printed_within states source ready q (ended.Answered answer) served of ends answered =
     let some = served.run.consistent in
@@ -167,7 +167,7 @@ printed_within states source ready q (ended.Core fault) served of ends answered 
 printed_within states source ready q (ended.Look list fault) served of ends answered =
     asks_nothing source q (printed_reading ready (ended.Look list fault)) (λ c. answered (subst (λ xs. Contains xs source) of.sources c))
 
-all_printed : (states : List State) (source : ℕ) (readies : List Ready) (queries : List Inquiry) (endings : List Ended) → All (IsServed states) queries
+all_printed : (states : List State) (source : ℕ) (readies : List Ready) (queries : List RunningQuery) (endings : List Ended) → All (IsServed states) queries
     → AllZip IsOf readies queries → AllZip EndsAs queries endings → AllZip (IsAnsweredOf source) readies endings
     → AllZip (AsksWithin source) queries (printed_readings readies endings)
 all_printed states source [] [] [] served of ends answered = tt
@@ -210,15 +210,15 @@ flat_method (Theta p q) sorted asked n D list is alone = absurd alone
 flat_method (Early depth) sorted asked n D list is alone = absurd alone
 
 -- the run of a query on some table that agrees with its transcript
-abbrev own_reading : (states : List State) (q : Inquiry) → IsServed states q → Reading
+abbrev own_reading : (states : List State) (q : RunningQuery) → IsServed states q → Reading
 own_reading states q served =
     record { sources = q.sources.items; accesses = run_with (method_of q.machine) (asked_of (state_of q.machine)) served.run.consistent.0 }
 
-own_within : (states : List State) (source : ℕ) (q : Inquiry) (served : IsServed states q) → AsksWithin source q (own_reading states q served)
+own_within : (states : List State) (source : ℕ) (q : RunningQuery) (served : IsServed states q) → AsksWithin source q (own_reading states q served)
 own_within states source q served =
     within_reading source q (own_reading states q served) served.run.consistent.0 refl served.run.consistent.1 refl
 
-own_flat : (states : List State) (source : ℕ) (ready : Ready) (q : Inquiry) (served : IsServed states q) → IsOf ready q → IsReadByGrades source ready
+own_flat : (states : List State) (source : ℕ) (ready : Ready) (q : RunningQuery) (served : IsServed states q) → IsOf ready q → IsReadByGrades source ready
     → depth_in source (own_reading states q served) ≡ 0
 own_flat states source ready q served of by_grades =
     let t = state_of q.machine in
@@ -238,7 +238,7 @@ own_flat states source ready q served of by_grades =
     ap (λ method. depth_of list (run_with method (asked_of t) D)) of.method
     ∙ flat_method ready.query.algorithm ready.sorted.items (asked_of t) t.log.count D list asked (by_grades list here own))
 
-all_own : (states : List State) (source : ℕ) (readies : List Ready) (queries : List Inquiry) → All (IsServed states) queries → AllZip IsOf readies queries
+all_own : (states : List State) (source : ℕ) (readies : List Ready) (queries : List RunningQuery) → All (IsServed states) queries → AllZip IsOf readies queries
     → All (IsReadByGrades source) readies → (readings : List Reading) × AllZip (AsksWithin source) queries readings × (deepest source readings ≡ 0)
 all_own states source [] [] served of by_grades = ([], tt, refl)
 all_own states source [] (q ∷ queries) served of by_grades = absurd of
@@ -265,7 +265,7 @@ none_kept number count s h none =
 reach_none : (want page ahead count rows : ℕ) → want ≡ 0 → rows ≤ reach_of want page ahead count → rows ≤ 0
 reach_none want page ahead count rows none l = subst (λ w. rows ≤ reach_of w page ahead count) none l
 
-module _ (run : BatchRun) (queries : List Inquiry) (states : List State) (uses : List Use) (read : IsReadBy run queries states uses) where
+module _ (run : BatchRun) (queries : List RunningQuery) (states : List State) (uses : List Use) (read : IsReadBy run queries states uses) where
   within : (readings : List Reading) (source : ℕ) → source < length run.sizes → AllZip (AsksWithin source) queries readings
       → IsWithin run.settings (size_at run.sizes source) source readings (use_at uses source)
   within readings source l h =
@@ -297,11 +297,11 @@ module _ (run : BatchRun) (queries : List Inquiry) (states : List State) (uses :
     own : All (HasTable lists) queries
     own = all_tables lists readies queries of tables
 
-    asks_so : (source : ℕ) (ready : Ready) (q : Inquiry) → Contains queries q → IsOf ready q → AsksWithin source q (one_reading lists ready)
+    asks_so : (source : ℕ) (ready : Ready) (q : RunningQuery) → Contains queries q → IsOf ready q → AsksWithin source q (one_reading lists ready)
     asks_so source ready q c is =
         within_reading source q (one_reading lists ready) (lists_of lists q) (sym is.sources) (agrees_by run queries states uses read lists told own q c) (one_run lists ready q is)
 
-    all_reads : (source : ℕ) (rs : List Ready) (qs : List Inquiry) → ((q : Inquiry) → Contains qs q → Contains queries q) → AllZip IsOf rs qs
+    all_reads : (source : ℕ) (rs : List Ready) (qs : List RunningQuery) → ((q : RunningQuery) → Contains qs q → Contains queries q) → AllZip IsOf rs qs
         → AllZip (AsksWithin source) qs (one_readings lists rs)
     all_reads source [] [] among are = tt
     all_reads source [] (q ∷ qs) among are = absurd are

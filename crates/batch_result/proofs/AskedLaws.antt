@@ -9,7 +9,7 @@ use Rattle.topk_theory.specs.Transcript.{depth_of, list_numbers, object_of}
 use Rattle.topk_theory.proofs.AgreementLists.{contains_at, contains_cases, contains_map, contains_nil}
 use Rattle.topk_theory.proofs.ListNumbers.{number_in}
 use Rattle.topk_theory.proofs.ThresholdLists.{contains_filter}
-use Rattle.query_run.specs.declared.inquiry.Inquiry.{Inquiry}
+use Rattle.query_run.specs.declared.running_query.RunningQuery.{RunningQuery}
 use Rattle.query_run.specs.Asking.{run_on, IsAskedFor, AsksGradeOf}
 use Rattle.batch_result.specs.Account.{Reading, depth_in, greatest, is_random_to, lists_of_source}
 use Rattle.batch_result.specs.Using.{AgreesWithRead}
@@ -32,7 +32,7 @@ greatest_above xs x c = above_each 0 xs x c
 
 -- ---- queries and readings
 -- what is certain of a source for a query is within a reading: no row is deeper, and each object is named by a random access
-pub record AsksWithin (source : ℕ) (q : Inquiry) (r : Reading) : Type 0 where
+pub record AsksWithin (source : ℕ) (q : RunningQuery) (r : Reading) : Type 0 where
   pub deep : (depth : ℕ) → IsAskedFor q source depth → depth ≤ depth_in source r
   pub named : (object : ℕ) → AsksGradeOf q source object → (access : Access) × Contains r.accesses access × (is_random_to source r.sources access ≡ true) × (object_of access ≡ object)
 
@@ -40,7 +40,7 @@ is_source : (one other : ℕ) → one ≡ other → (one == other) ≡ true
 is_source one other e = elim (eqb_tells one other) [ inl t ↦ t.0 | inr f ↦ absurd (f.1 e) ]
 
 -- a reading that is the run of the query on a table that agrees with what it read
-pub within_reading : (source : ℕ) (q : Inquiry) (r : Reading) (D : List (List Row)) → r.sources ≡ q.sources.items → AgreesWithRead q D → run_on q D ≡ r.accesses
+pub within_reading : (source : ℕ) (q : RunningQuery) (r : Reading) (D : List (List Row)) → r.sources ≡ q.sources.items → AgreesWithRead q D → run_on q D ≡ r.accesses
     → AsksWithin source q r
 within_reading source q r D same agrees run = record {
   deep = λ depth asks.
@@ -61,7 +61,7 @@ within_reading source q r D same agrees run = record {
 }
 
 -- ---- a query that doesn't read a source
-pub asks_nothing : (source : ℕ) (q : Inquiry) (r : Reading) → ¬ Contains q.sources.items source → AsksWithin source q r
+pub asks_nothing : (source : ℕ) (q : RunningQuery) (r : Reading) → ¬ Contains q.sources.items source → AsksWithin source q r
 asks_nothing source q r none = record {
   deep = λ depth asks. absurd (none (subst (Contains q.sources.items) asks.of (contains_at q.sources.items asks.list 0 asks.listed)));
   named = λ object asks. absurd (none (subst (Contains q.sources.items) asks.of (contains_at q.sources.items asks.list 0 asks.listed)));

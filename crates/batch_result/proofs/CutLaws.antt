@@ -1,4 +1,4 @@
--- What was read of the sources of a batch for which memory was wanting.
+-- What was read of the sources of a batch that ran out of memory.
 use Rattle.std.proofs.Common.{◌≡◌, ◌≤◌, ◌<◌, ◌+◌, ℕ, max, Option, Some, None, List, [], ◌∷◌, length, map, All, arith}
 use Rattle.std.specs.List.{AllZip, fold}
 use Rattle.std.proofs.lemmas.List.Elements.{All-nil, All-cons, All-tail}
@@ -9,7 +9,7 @@ use Rattle.topk_theory.specs.Transcript.{list_at}
 use Rattle.topk_theory.proofs.AgreementLists.{contains_here, member_of_all}
 use Rattle.source_state.specs.State.{state_at}
 use Rattle.query_core.specs.declared.ready.Ready.{Ready}
-use Rattle.query_run.specs.declared.inquiry.Inquiry.{Inquiry}
+use Rattle.query_run.specs.declared.running_query.RunningQuery.{RunningQuery}
 use Rattle.query_run.specs.Made.{IsOf}
 use Rattle.batch_result.specs.Account.{IsReadByGrades, IsWithin, KeepsEach, deepest, depth_in, one_reading, one_readings, random_accesses, random_in}
 use Rattle.batch_result.specs.Batches.{BatchRun, size_at, use_at}
@@ -18,13 +18,13 @@ use Rattle.batch_result.specs.Cut.{IsOfBegun, begun, IsCut}
 use Rattle.batch_result.proofs.AccountLaws.{account_by, kept_by, no_rows_by}
 
 -- the ready queries that began
-abbrev ready_begun : List Ready → List (Option Inquiry) → List Ready
+abbrev ready_begun : List Ready → List (Option RunningQuery) → List Ready
 ready_begun [] stood = []
 ready_begun (ready ∷ readies) [] = []
 ready_begun (ready ∷ readies) (None ∷ stood) = ready_begun readies stood
 ready_begun (ready ∷ readies) (Some q ∷ stood) = ready ∷ ready_begun readies stood
 
-of_begun : (readies : List Ready) (stood : List (Option Inquiry)) → AllZip IsOfBegun readies stood
+of_begun : (readies : List Ready) (stood : List (Option RunningQuery)) → AllZip IsOfBegun readies stood
     → AllZip IsOf (ready_begun readies stood) (begun stood)
 of_begun [] [] h = tt
 of_begun [] (one ∷ stood) h = absurd h
@@ -32,7 +32,7 @@ of_begun (ready ∷ readies) [] h = absurd h
 of_begun (ready ∷ readies) (None ∷ stood) h = of_begun readies stood h.1
 of_begun (ready ∷ readies) (Some q ∷ stood) h = (h.0, of_begun readies stood h.1)
 
-all_begun : (P : Ready → Type 0) (readies : List Ready) (stood : List (Option Inquiry)) → All P readies → All P (ready_begun readies stood)
+all_begun : (P : Ready → Type 0) (readies : List Ready) (stood : List (Option RunningQuery)) → All P readies → All P (ready_begun readies stood)
 all_begun P [] stood h = All-nil P
 all_begun P (ready ∷ readies) [] h = All-nil P
 all_begun P (ready ∷ readies) (None ∷ stood) h = all_begun P readies stood (All-tail P ready readies h)
@@ -45,7 +45,7 @@ fold_above : (numbers : List ℕ) (a b : ℕ) → a ≤ b → a ≤ fold max b n
 fold_above [] a b le = le
 fold_above (n ∷ numbers) a b le = fold_above numbers a (max b n) (omega (arith, le))
 
-deeper : (source : ℕ) (lists : List (List Row)) (readies : List Ready) (stood : List (Option Inquiry)) (a b : ℕ) → a ≤ b
+deeper : (source : ℕ) (lists : List (List Row)) (readies : List Ready) (stood : List (Option RunningQuery)) (a b : ℕ) → a ≤ b
     → fold max a (map (depth_in source) (one_readings lists (ready_begun readies stood))) ≤ fold max b (map (depth_in source) (one_readings lists readies))
 deeper source lists [] stood a b le = le
 deeper source lists (ready ∷ readies) [] a b le = fold_above (map (depth_in source) (one_readings lists (ready ∷ readies))) a b le
@@ -58,7 +58,7 @@ more : (source : ℕ) (lists : List (List Row)) (ready : Ready) (readies : List 
     → random_accesses source (one_readings lists (ready ∷ readies)) ≡ random_in source (one_reading lists ready) + random_accesses source (one_readings lists readies)
 more source lists ready readies = sum_by-cons (random_in source) (one_reading lists ready) (one_readings lists readies)
 
-fewer : (source : ℕ) (lists : List (List Row)) (readies : List Ready) (stood : List (Option Inquiry))
+fewer : (source : ℕ) (lists : List (List Row)) (readies : List Ready) (stood : List (Option RunningQuery))
     → random_accesses source (one_readings lists (ready_begun readies stood)) ≤ random_accesses source (one_readings lists readies)
 fewer source lists [] stood = omega arith
 fewer source lists (ready ∷ readies) [] = omega arith

@@ -19,7 +19,7 @@ use Rattle.query_core.specs.declared.ready.Ready.{Ready}
 use Rattle.query_core.specs.Machines.{state_of}
 use Rattle.query_run.specs.declared.ended.Ended.{Ended}
 use Rattle.query_run.specs.declared.ended.Refusal.TheVariants as refusal
-use Rattle.query_run.specs.declared.inquiry.Inquiry.{Inquiry}
+use Rattle.query_run.specs.declared.running_query.RunningQuery.{RunningQuery}
 use Rattle.query_run.specs.Inquiries.{needed, list_needed, source_of, source_needed}
 use Rattle.query_run.specs.Causes.{IsOfList, IsCause}
 use Rattle.query_run.specs.Endings.{EndsAs}
@@ -51,7 +51,7 @@ need_list (need.Grade other object) list h = h
 need_list need.Done list h = absurd h
 
 -- a query that is refused for a call that failed is counted at the source of its need
-pub counted_for : (what : FailKind) (fault : LookFault) (states : List State) (q : Inquiry) (list : ℕ) → is_fail what fault ≡ true → IsServed states q
+pub counted_for : (what : FailKind) (fault : LookFault) (states : List State) (q : RunningQuery) (list : ℕ) → is_fail what fault ≡ true → IsServed states q
     → q.refusal ≡ Some (refusal.Look list fault) → (source_needed q < length states) × (is_refused_for what (source_needed q) q ≡ true)
 counted_for what fault states q list is served e =
     let cause = subst (IsCause (state_at states (source_needed q)) (state_of q.machine) q.waiting.noted) e served.cause in
@@ -84,7 +84,7 @@ module _ (run : BatchRun) (batch : BatchState) (lists : List (List Row)) (ran : 
   runs = on_their_runs run batch ran lists tells.told (λ source l. (tells.untroubled source l).moves) tables
 
   -- no query is refused for a call that failed
-  none_refused : (what : FailKind) (fault : LookFault) (q : Inquiry) (list : ℕ) → is_fail what fault ≡ true
+  none_refused : (what : FailKind) (fault : LookFault) (q : RunningQuery) (list : ℕ) → is_fail what fault ≡ true
       → ((source : ℕ) → source < length run.sizes → count_by (is_refused_for what source) ran.queries ≤ 0) → Contains ran.queries q
       → q.refusal ≡ Some (refusal.Look list fault) → ⊥
   none_refused what fault q list is none c e =
@@ -100,10 +100,10 @@ module _ (run : BatchRun) (batch : BatchState) (lists : List (List Row)) (ran : 
   none_garbled : (source : ℕ) → source < length run.sizes → count_by (is_refused_for kind.Garbled source) ran.queries ≤ 0
   none_garbled source l = no_calls run.settings.workers _ _ _ _ (ran.counted source l).garbled (tells.untroubled source l).garbles
 
-  own_table : (ready : Ready) (q : Inquiry) → IsOf ready q → Contains ran.queries q → IsTable ready.count (lists_of lists q)
+  own_table : (ready : Ready) (q : RunningQuery) → IsOf ready q → Contains ran.queries q → IsTable ready.count (lists_of lists q)
   own_table ready q of c = subst (λ n. IsTable n (lists_of lists q)) (of.goes.count ∙ of.begun.count) (member_of_all (HasTable lists) ran.queries q tables c)
 
-  one_ends : (ready : Ready) (q : Inquiry) (end : Ended) → Contains ran.queries q → IsOf ready q → EndsAs q end → EndsOver (lists_for lists ready) ready end
+  one_ends : (ready : Ready) (q : RunningQuery) (end : Ended) → Contains ran.queries q → IsOf ready q → EndsAs q end → EndsOver (lists_for lists ready) ready end
   one_ends ready q end c of ends =
       let on = member_of_all (IsOnItsRun lists) ran.queries q runs c in
       subst (λ D. EndsOver D ready end) (sym (same_lists lists ready q of))

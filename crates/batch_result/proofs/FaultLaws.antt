@@ -23,7 +23,7 @@ use Rattle.query_core.specs.Machines.{state_of}
 use Rattle.query_run.specs.declared.ended.Ended.{Ended}
 use Rattle.query_run.specs.declared.ended.Ended.TheVariants as ended
 use Rattle.query_run.specs.declared.ended.Refusal.TheVariants as refusal
-use Rattle.query_run.specs.declared.inquiry.Inquiry.{Inquiry}
+use Rattle.query_run.specs.declared.running_query.RunningQuery.{RunningQuery}
 use Rattle.query_run.specs.Inquiries.{needed, source_needed, source_of}
 use Rattle.query_run.specs.Causes.{CanNotBeHad, IsAtFault, IsCause, IsMissed}
 use Rattle.query_run.specs.Endings.{EndsAs}
@@ -208,11 +208,11 @@ if_told (Some rows) P Q h f = f rows h
 -- ---- a batch
 module _ (run : BatchRun) (batch : BatchState) (ran : IsBatch run batch) where
   -- the log of the source of a refused query's list tells of the list, where that is told, and the need can't be had there
-  record IsRefusedAt (ready : Ready) (q : Inquiry) (list : ℕ) (fault : LookFault) : Type 0 where
+  record IsRefusedAt (ready : Ready) (q : RunningQuery) (list : ℕ) (fault : LookFault) : Type 0 where
     tells : IfSome (told_list run.told ready list) (λ rows. TellsOf rows (state_at ran.states (source_needed q)).log)
     cause : CanNotBeHad (state_at ran.states (source_needed q)) (needed q) q.waiting.noted fault
 
-  refused_at : (ready : Ready) (q : Inquiry) (list : ℕ) (fault : LookFault) → Contains ran.queries q → IsOf ready q
+  refused_at : (ready : Ready) (q : RunningQuery) (list : ℕ) (fault : LookFault) → Contains ran.queries q → IsOf ready q
       → q.refusal ≡ Some (refusal.Look list fault) → IsRefusedAt ready q list fault
   refused_at ready q list fault c of e =
       let served = member_of_all (IsServed ran.states) ran.queries q ran.served c in
@@ -227,7 +227,7 @@ module _ (run : BatchRun) (batch : BatchState) (ran : IsBatch run batch) where
         cause = cause.1;
       }
 
-  one_cause : (ready : Ready) (q : Inquiry) (end : Ended) → Contains ran.queries q → IsOf ready q → EndsAs q end → HasToldCause run.told ready end
+  one_cause : (ready : Ready) (q : RunningQuery) (end : Ended) → Contains ran.queries q → IsOf ready q → EndsAs q end → HasToldCause run.told ready end
   one_cause ready q (ended.Look list (why.Source fault)) c of ends =
       let at = refused_at ready q list (why.Source fault) c of ends in
       if_told (told_list run.told ready list) _ (λ rows. HasFault rows fault) at.tells
@@ -244,5 +244,5 @@ module _ (run : BatchRun) (batch : BatchState) (ran : IsBatch run batch) where
   pub told_causes : AllZip (HasToldCause run.told) run.readies batch.endings
   told_causes = zip_through IsOf EndsAs (HasToldCause run.told) run.readies ran.queries batch.endings one_cause_of ran.of ran.ends
     where
-      one_cause_of : (ready : Ready) (q : Inquiry) (end : Ended) → Contains ran.queries q → IsOf ready q → EndsAs q end → HasToldCause run.told ready end
+      one_cause_of : (ready : Ready) (q : RunningQuery) (end : Ended) → Contains ran.queries q → IsOf ready q → EndsAs q end → HasToldCause run.told ready end
       one_cause_of ready q end c of ends = one_cause ready q end c of ends

@@ -8,7 +8,7 @@ use Rattle.source_state.specs.declared.entry.LogEntry.{LogEntry}
 use Rattle.source_state.specs.State.{State, IsSound, state_at}
 use Rattle.source_pool.specs.declared.hold.Hold.{Hold}
 use Rattle.source_pool.specs.Passes.{hold_at}
-use Rattle.query_run.specs.declared.inquiry.Inquiry.{Inquiry}
+use Rattle.query_run.specs.declared.running_query.RunningQuery.{RunningQuery}
 use Rattle.query_run.specs.Kept.{IsServed}
 use Rattle.query_run.proofs.Causes.{IsLater}
 use Rattle.query_run.proofs.Serving.{AreLater, served_stays}
@@ -75,6 +75,6 @@ all_later holds states many ahead sound shut = record {
       (later_seen (hold_at holds source).pass.1 (state_at states source) (ahead source within) (sound source within) (shut source within));
 }
 
-pub served_later : (holds : List Hold) (states : List State) (q : Inquiry) → AreLater (states_seen holds) states → IsServed (states_seen holds) q
+pub served_later : (holds : List Hold) (states : List State) (q : RunningQuery) → AreLater (states_seen holds) states → IsServed (states_seen holds) q
     → IsServed states q
 served_later holds states q later h = served_stays (states_seen holds) states q later h

@@ -22,7 +22,7 @@ use Rattle.query_core.specs.declared.ready.Ready.{Ready}
 use Rattle.query_core.specs.Machines.{state_of}
 use Rattle.query_run.specs.declared.ended.Ended.{Ended}
 use Rattle.query_run.specs.declared.ended.Refusal.TheVariants as refusal
-use Rattle.query_run.specs.declared.inquiry.Inquiry.{Inquiry}
+use Rattle.query_run.specs.declared.running_query.RunningQuery.{RunningQuery}
 use Rattle.query_run.specs.Inquiries.{is_done, list_needed, needed, source_needed, source_of}
 use Rattle.query_run.specs.Causes.{CanNotBeHad, IsAtFault, IsCause, IsMissed}
 use Rattle.query_run.specs.Endings.{EndsAs}
@@ -104,16 +104,16 @@ module _ (run : BatchRun) (batch : BatchState) (ran : IsBatch run batch) (lists 
   own : All (HasTable lists) ran.queries
   own = all_tables lists run.readies ran.queries ran.of tables
 
-  served_of : (q : Inquiry) → Contains ran.queries q → IsServed ran.states q
+  served_of : (q : RunningQuery) → Contains ran.queries q → IsServed ran.states q
   served_of q c = member_of_all (IsServed ran.states) ran.queries q ran.served c
 
-  reads : (q : Inquiry) → Contains ran.queries q → ReadsThem lists ran.states q
+  reads : (q : RunningQuery) → Contains ran.queries q → ReadsThem lists ran.states q
   reads q c = record {
     agrees = agrees run batch ran lists told own q c;
     rows = λ list l. (read_of run batch ran lists told own q (source_of q list) c (contains_at q.sources.items list 0 l)).tells.rows;
   }
 
-  needs_of : (q : Inquiry) → Contains ran.queries q → is_done (needed q) ≡ false
+  needs_of : (q : RunningQuery) → Contains ran.queries q → is_done (needed q) ≡ false
       → NeedsOf (list_at lists (source_needed q)) (state_at ran.states (source_needed q)) (needed q)
   needs_of q c going =
       let served = served_of q c in
@@ -138,14 +138,14 @@ module _ (run : BatchRun) (batch : BatchState) (ran : IsBatch run batch) (lists 
       }
 
   -- why a query is refused
-  lacked : (q : Inquiry) (fault : CoreFault) → Contains ran.queries q → q.refusal ≡ Some (refusal.Core fault)
+  lacked : (q : RunningQuery) (fault : CoreFault) → Contains ran.queries q → q.refusal ≡ Some (refusal.Core fault)
       → MayRefuse (lists_of lists q) q (Some (refusal.Core fault))
   lacked q fault c e =
       let served = served_of q c in
       may_lack lists ran.states q fault served (reads q c)
       (subst (IsCause (state_at ran.states (source_needed q)) (state_of q.machine) q.waiting.noted) e served.cause)
 
-  looked : (q : Inquiry) (list : ℕ) (fault : LookFault) → Contains ran.queries q → q.refusal ≡ Some (refusal.Look list fault) → IsOutside fault
+  looked : (q : RunningQuery) (list : ℕ) (fault : LookFault) → Contains ran.queries q → q.refusal ≡ Some (refusal.Look list fault) → IsOutside fault
   looked q list fault c e =
       let served = served_of q c in
       let cause = subst (IsCause (state_at ran.states (source_needed q)) (state_of q.machine) q.waiting.noted) e served.cause in
@@ -153,7 +153,7 @@ module _ (run : BatchRun) (batch : BatchState) (ran : IsBatch run batch) (lists 
       (needs_of q c (of_some_list list (needed q) cause.0))
       (λ same. member_of_all IsSpared ran.queries q ran.spared c list (e ∙ ap (λ f. Some (refusal.Look list f)) same)) cause.1
 
-  one_ends : (ready : Ready) (q : Inquiry) (end : Ended) → Contains ran.queries q → IsOf ready q → EndsAs q end
+  one_ends : (ready : Ready) (q : RunningQuery) (end : Ended) → Contains ran.queries q → IsOf ready q → EndsAs q end
       → EndsOrFails (lists_for lists ready) ready end
   one_ends ready q end c of ends =
       let table : IsTable ready.count (lists_of lists q)

@@ -23,7 +23,7 @@ use Rattle.query_core.proofs.Answering.{drives_begun, finishes_begun, stops_begu
 use Rattle.query_run.specs.declared.ended.Ended.{Ended}
 use Rattle.query_run.specs.declared.ended.Ended.TheVariants as ended
 use Rattle.query_run.specs.declared.ended.Refusal.TheVariants as refusal
-use Rattle.query_run.specs.declared.inquiry.Inquiry.{Inquiry}
+use Rattle.query_run.specs.declared.running_query.RunningQuery.{RunningQuery}
 use Rattle.query_run.specs.Inquiries.{source_needed}
 use Rattle.query_run.specs.Causes.{IsCause}
 use Rattle.query_run.specs.Endings.{EndsAs}
@@ -34,7 +34,7 @@ use Rattle.batch_result.specs.Batches.{IsSpared}
 use Rattle.batch_result.specs.Tables.{EndsOrFails, EndsOver, IsOutside}
 
 -- a query over its own lists, which form a table and agree with its transcript
-module _ (lists : List (List Row)) (states : List State) (ready : Ready) (q : Inquiry) (served : IsServed states q) (of : IsOf ready q)
+module _ (lists : List (List Row)) (states : List State) (ready : Ready) (q : RunningQuery) (served : IsServed states q) (of : IsOf ready q)
     (table : IsTable ready.count (lists_of lists q)) (agrees : AgreesWith (lists_of lists q) (state_of q.machine).log) where
   abbrev D : List (List Row)
   D = lists_of lists q

@@ -16,7 +16,7 @@ use Rattle.source_state.specs.Log.{rows_in, graded_in}
 use Rattle.source_state.specs.State.{State, opened, IsSound, state_at}
 use Rattle.source_state.proofs.LogLaws.{graded_settling}
 use Rattle.query_core.specs.Machines.{method_of, state_of}
-use Rattle.query_run.specs.declared.inquiry.Inquiry.{Inquiry}
+use Rattle.query_run.specs.declared.running_query.RunningQuery.{RunningQuery}
 use Rattle.query_run.specs.Inquiries.{told_to, source_of}
 use Rattle.query_run.specs.Kept.{IsSourceOf, IsServed}
 use Rattle.query_run.specs.Honest.{lists_of, HasTable, IsTrueOf, IsTrueFor, IsOnItsRun}
@@ -36,7 +36,7 @@ use Rattle.batch_result.specs.Tables.{NoneMoved}
 use Rattle.batch_result.proofs.Places.{map_at, same_at}
 
 -- where each log of a query's sources tells of the source's list alone, the query's transcript agrees with its lists
-module _ (lists : List (List Row)) (states : List State) (q : Inquiry) (sound : All IsSound states) (h : IsServed states q) (table : HasTable lists q)
+module _ (lists : List (List Row)) (states : List State) (q : RunningQuery) (sound : All IsSound states) (h : IsServed states q) (table : HasTable lists q)
     (tells : (list : ℕ) → list < length q.sources.items → TellsOf (list_at lists (source_of q list)) (state_at states (source_of q list)).log) where
   abbrev D : List (List Row)
   D = lists_of lists q
@@ -70,7 +70,7 @@ module _ (lists : List (List Row)) (states : List State) (q : Inquiry) (sound : 
       }
 
 -- an object whose grade is certain for a query stands in the list
-asked_of_list : (lists : List (List Row)) (states : List State) (q : Inquiry) (list object : ℕ) → IsServed states q → list < length q.sources.items
+asked_of_list : (lists : List (List Row)) (states : List State) (q : RunningQuery) (list object : ℕ) → IsServed states q → list < length q.sources.items
     → AgreesWith (lists_of lists q) (state_of q.machine).log → IsCertainFor q (need.Grade list object)
     → Contains (objects (list_at (lists_of lists q) list)) object
 asked_of_list lists states q list object h listed agrees certain =
@@ -90,7 +90,7 @@ asked_of_list lists states q list object h listed agrees certain =
     = drawn_gives (length D) (whole D) split.0 (Random list object met.0) split.1 (subst (IsDrawn (length D) (whole D)) split.2 run.drawn) in
     contains_map (λ (row : Row). row.object) (list_at D list) (record { object = object; grade = met.0 }) gives
 
-pub named_in_list : (lists : List (List Row)) (states : List State) (q : Inquiry) (source object : ℕ) → IsServed states q
+pub named_in_list : (lists : List (List Row)) (states : List State) (q : RunningQuery) (source object : ℕ) → IsServed states q
     → AgreesWith (lists_of lists q) (state_of q.machine).log → AsksGradeOf q source object → Contains (objects (list_at lists source)) object
 named_in_list lists states q source object h agrees asks =
     subst (λ s. Contains (objects (list_at lists s)) object) asks.of
@@ -112,29 +112,29 @@ pub record IsReadOf (lists : List (List Row)) (states : List State) (source : �
   pub honest : IsHonestFor (list_at lists source) (state_at states source)
 
 -- the closing states are sound
-sound_by : (run : BatchRun) (queries : List Inquiry) (states : List State) (uses : List Use) → IsReadBy run queries states uses → All IsSound states
+sound_by : (run : BatchRun) (queries : List RunningQuery) (states : List State) (uses : List Use) → IsReadBy run queries states uses → All IsSound states
 sound_by run queries states uses read k d l =
     let many = read.many in
     subst IsSound (same_at states k (opened 0 0) d l) (read.closing k (omega (arith, l, many))).sound
 
-module _ (run : BatchRun) (queries : List Inquiry) (states : List State) (uses : List Use) (read : IsReadBy run queries states uses) (lists : List (List Row)) (told : run.told ≡ map Some lists)
+module _ (run : BatchRun) (queries : List RunningQuery) (states : List State) (uses : List Use) (read : IsReadBy run queries states uses) (lists : List (List Row)) (told : run.told ≡ map Some lists)
     (tables : All (HasTable lists) queries) where
   all_sound : All IsSound states
   all_sound = sound_by run queries states uses read
 
-  served_by : (q : Inquiry) → Contains queries q → IsServed states q
+  served_by : (q : RunningQuery) → Contains queries q → IsServed states q
   served_by q c = member_of_all (IsServed states) queries q read.served c
 
-  table : (q : Inquiry) → Contains queries q → HasTable lists q
+  table : (q : RunningQuery) → Contains queries q → HasTable lists q
   table q c = member_of_all (HasTable lists) queries q tables c
 
-  within_by : (q : Inquiry) (source : ℕ) → Contains queries q → Contains q.sources.items source → source < length run.sizes
+  within_by : (q : RunningQuery) (source : ℕ) → Contains queries q → Contains q.sources.items source → source < length run.sizes
   within_by q source c s =
       let at = member_of_all (IsSourceOf states (state_of q.machine).log.count) q.sources.items source (served_by q c).sources.each s in
       let many = read.many in
       omega (arith, at.0, many)
 
-  pub reads_of : (q : Inquiry) (source : ℕ) → Contains queries q → Contains q.sources.items source → IsReadOf lists states source
+  pub reads_of : (q : RunningQuery) (source : ℕ) → Contains queries q → Contains q.sources.items source → IsReadOf lists states source
   reads_of q source c s =
       let at = member_of_all (IsSourceOf states (state_of q.machine).log.count) q.sources.items source (served_by q c).sources.each s in
       let among = contains_map (list_at lists) q.sources.items source s in
@@ -152,7 +152,7 @@ module _ (run : BatchRun) (queries : List Inquiry) (states : List State) (uses :
         honest = subst (λ o. IfSome o (λ list. IsHonestFor list (state_at states source))) is closing.honest;
       }
 
-  pub agrees_by : (q : Inquiry) → Contains queries q → AgreesWith (lists_of lists q) (state_of q.machine).log
+  pub agrees_by : (q : RunningQuery) → Contains queries q → AgreesWith (lists_of lists q) (state_of q.machine).log
   agrees_by q c = told_agrees lists states q all_sound (served_by q c) (table q c)
       (λ list l. (reads_of q (source_of q list) c (contains_at q.sources.items list 0 l)).tells)
 
@@ -165,22 +165,22 @@ states_sound run batch ran = sound_by run ran.queries ran.states batch.uses (rea
 
 module _ (run : BatchRun) (batch : BatchState) (ran : IsBatch run batch) (lists : List (List Row)) (told : run.told ≡ map Some lists)
     (tables : All (HasTable lists) ran.queries) where
-  served : (q : Inquiry) → Contains ran.queries q → IsServed ran.states q
+  served : (q : RunningQuery) → Contains ran.queries q → IsServed ran.states q
   served q c = member_of_all (IsServed ran.states) ran.queries q ran.served c
 
-  within : (q : Inquiry) (source : ℕ) → Contains ran.queries q → Contains q.sources.items source → source < length run.sizes
+  within : (q : RunningQuery) (source : ℕ) → Contains ran.queries q → Contains q.sources.items source → source < length run.sizes
   within = within_by run ran.queries ran.states batch.uses (read_by run batch ran) lists told tables
 
-  pub read_of : (q : Inquiry) (source : ℕ) → Contains ran.queries q → Contains q.sources.items source → IsReadOf lists ran.states source
+  pub read_of : (q : RunningQuery) (source : ℕ) → Contains ran.queries q → Contains q.sources.items source → IsReadOf lists ran.states source
   read_of = reads_of run ran.queries ran.states batch.uses (read_by run batch ran) lists told tables
 
-  pub agrees : (q : Inquiry) → Contains ran.queries q → AgreesWith (lists_of lists q) (state_of q.machine).log
+  pub agrees : (q : RunningQuery) → Contains ran.queries q → AgreesWith (lists_of lists q) (state_of q.machine).log
   agrees = agrees_by run ran.queries ran.states batch.uses (read_by run batch ran) lists told tables
 
 -- where moreover no list was replaced
 module _ (run : BatchRun) (batch : BatchState) (ran : IsBatch run batch) (lists : List (List Row)) (told : run.told ≡ map Some lists) (unmoved : NoneMoved run)
     (tables : All (HasTable lists) ran.queries) where
-  pub is_true : (q : Inquiry) (source : ℕ) → Contains ran.queries q → Contains q.sources.items source → IsTrueOf (list_at lists source) (state_at ran.states source)
+  pub is_true : (q : RunningQuery) (source : ℕ) → Contains ran.queries q → Contains q.sources.items source → IsTrueOf (list_at lists source) (state_at ran.states source)
   is_true q source c s =
       let read = read_of run batch ran lists told tables q source c s in
       read.honest.honest read.ranked read.long
@@ -189,7 +189,7 @@ module _ (run : BatchRun) (batch : BatchState) (ran : IsBatch run batch) (lists 
       named_in_list lists ran.states one.0 source object (served run batch ran lists told tables one.0 one.1) (agrees run batch ran lists told tables one.0 one.1) one.2)
       (λ had other tells. let here = within run batch ran lists told tables q source c s in unmoved source here ((ran.counted source here).moved had other tells).counted)
 
-  true_for : (q : Inquiry) → Contains ran.queries q → IsTrueFor lists ran.states q
+  true_for : (q : RunningQuery) → Contains ran.queries q → IsTrueFor lists ran.states q
   true_for q c = record {
     table = member_of_all (HasTable lists) ran.queries q tables c;
     each = all_from_members (λ source. IsTrueOf (list_at lists source) (state_at ran.states source)) q.sources.items (λ source s. is_true q source c s);

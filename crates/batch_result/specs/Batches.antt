@@ -10,7 +10,7 @@ use Rattle.source_state.specs.State.{State, IsSound, state_at}
 use Rattle.query_core.specs.declared.ready.Ready.{Ready}
 use Rattle.query_run.specs.declared.ended.Ended.{Ended}
 use Rattle.query_run.specs.declared.ended.Refusal.TheVariants.{Look}
-use Rattle.query_run.specs.declared.inquiry.Inquiry.{Inquiry}
+use Rattle.query_run.specs.declared.running_query.RunningQuery.{RunningQuery}
 use Rattle.query_run.specs.Kept.{IsServed}
 use Rattle.query_run.specs.Made.{IsOf}
 use Rattle.query_run.specs.Honest.{IsTrueOf}
@@ -76,19 +76,19 @@ pub record IsClosing (source size : ℕ) (told : Option (List Row)) (s : State) 
   pub tells : IfSome told (λ list. TellsOf list s.log)
   pub honest : IfSome told (λ list. IsHonestFor list s)
 
--- a query isn't refused for want of memory
-abbrev pub IsSpared : Inquiry → Type 0
+-- a query isn't refused for lack of memory
+abbrev pub IsSpared : RunningQuery → Type 0
 IsSpared q = (list : ℕ) → q.refusal ≢ Some (Look list (why.Call kind.Memory))
 
 -- how a batch ended. There are the closing states of the sources, and the queries as they stood at their ends, in their order:
 --   each query's transcript is drawn from the closing logs of its sources and is how the run of its algorithm begins on every table that
 --   agrees with it, and a refused one has its cause in the closing state of the source that it needed;
---   each ended as it stood, with the answer of its run, which is right, or as it was refused, by its own turns, and none for want of memory;
+--   each ended as it stood, with the answer of its run, which is right, or as it was refused, by its own turns, and none for lack of memory;
 --   of each source no more was used than the queries asked for, no query is refused for a call that failed but where such calls were counted, and a list
 --   was replaced only where that was counted, in place of the version at hand
 pub record IsBatch (run : BatchRun) (batch : BatchState) : Type 0 where
   pub states : List State
-  pub queries : List Inquiry
+  pub queries : List RunningQuery
   pub many : length states ≡ length run.sizes
   pub closing : (source : ℕ) → source < length run.sizes → IsClosing source (size_at run.sizes source) (told_at run.told source) (state_at states source)
   pub of : AllZip IsOf run.readies queries

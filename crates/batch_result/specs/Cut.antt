@@ -1,9 +1,9 @@
--- What came of a batch for which memory was wanting.
+-- What came of a batch that ran out of memory.
 use Rattle.std.specs.Prelude.{◌≡◌, ◌<◌, ℕ, Option, Some, None, List, [], ◌∷◌, All, length, IfSome}
 use Rattle.std.specs.List.{AllZip}
 use Rattle.source_state.specs.State.{State, state_at}
 use Rattle.query_core.specs.declared.ready.Ready.{Ready}
-use Rattle.query_run.specs.declared.inquiry.Inquiry.{Inquiry}
+use Rattle.query_run.specs.declared.running_query.RunningQuery.{RunningQuery}
 use Rattle.query_run.specs.Kept.{IsServed}
 use Rattle.query_run.specs.Made.{IsOf}
 use Rattle.batch_result.specs.declared.batch.Use.{Use}
@@ -13,7 +13,7 @@ use Rattle.batch_result.specs.Batches.{BatchRun, IsClosing, size_at, use_at}
 
 -- what queries read of the sources of a run, which closed in these states: each transcript is drawn from the closing logs and is how the run of its
 -- algorithm begins on every table that agrees with it, and of each source no more was used than the queries asked for
-pub record IsReadBy (run : BatchRun) (queries : List Inquiry) (states : List State) (uses : List Use) : Type 0 where
+pub record IsReadBy (run : BatchRun) (queries : List RunningQuery) (states : List State) (uses : List Use) : Type 0 where
   pub many : length states ≡ length run.sizes
   pub closing : (source : ℕ) → source < length run.sizes → IsClosing source (size_at run.sizes source) (told_at run.told source) (state_at states source)
   pub served : All (IsServed states) queries
@@ -21,19 +21,19 @@ pub record IsReadBy (run : BatchRun) (queries : List Inquiry) (states : List Sta
       → IsUsed run.settings queries source (state_at states source) (counts_at run.before source) (counts_at run.now source) (use_at uses source)
 
 -- a query that began is one that is ready
-abbrev pub IsOfBegun : Ready → Option Inquiry → Type 0
+abbrev pub IsOfBegun : Ready → Option RunningQuery → Type 0
 IsOfBegun ready stood = IfSome stood (IsOf ready)
 
 -- the queries that began
-abbrev pub begun : List (Option Inquiry) → List Inquiry
+abbrev pub begun : List (Option RunningQuery) → List RunningQuery
 begun [] = []
 begun (None ∷ stood) = begun stood
 begun (Some q ∷ stood) = q ∷ begun stood
 
--- a batch for which memory was wanting. There are the queries as they stood when they ended or were let go, in their order, those that had begun; the
+-- a batch that ran out of memory. There are the queries as they stood when they ended or were let go, in their order, those that had begun; the
 -- closing states of the sources; and what was used of them, which is no more than what these queries asked for: a source that no query asked gave nothing
 pub record IsCut (run : BatchRun) : Type 0 where
-  pub stood : List (Option Inquiry)
+  pub stood : List (Option RunningQuery)
   pub states : List State
   pub uses : List Use
   pub of : AllZip IsOfBegun run.readies stood

@@ -15,7 +15,7 @@ use Rattle.source_state.specs.State.{State}
 use Rattle.source_state.specs.Looking.{reach_of}
 use Rattle.query_run.specs.declared.ended.Refusal.{Refusal}
 use Rattle.query_run.specs.declared.ended.Refusal.TheVariants.{Core, Look}
-use Rattle.query_run.specs.declared.inquiry.Inquiry.{Inquiry}
+use Rattle.query_run.specs.declared.running_query.RunningQuery.{RunningQuery}
 use Rattle.query_run.specs.Inquiries.{source_of}
 use Rattle.query_run.specs.Asking.{IsAskedFor, AsksGradeOf, grades_on}
 use Rattle.fetcher.specs.Causes.{HasGiven}
@@ -46,27 +46,27 @@ is_fail kind.Memory (why.Call kind.Failed) = false
 is_fail kind.Memory (why.Call kind.Garbled) = false
 
 -- a query is refused because a call of this source failed so
-abbrev pub refuses_for : FailKind → ℕ → Inquiry → Option Refusal → Bool
+abbrev pub refuses_for : FailKind → ℕ → RunningQuery → Option Refusal → Bool
 refuses_for what source q None = false
 refuses_for what source q (Some (Core fault)) = false
 refuses_for what source q (Some (Look list fault)) = is_fail what fault && source_of q list == source
 
-abbrev pub is_refused_for : FailKind → ℕ → Inquiry → Bool
+abbrev pub is_refused_for : FailKind → ℕ → RunningQuery → Bool
 is_refused_for what source q = refuses_for what source q q.refusal
 
 -- a depth is none, or so many rows of a list of this source are certain for one of these queries
-abbrev pub IsWantedBy : List Inquiry → ℕ → ℕ → Type 0
-IsWantedBy queries source depth = (depth ≡ 0) ⊎ ((q : Inquiry) × Contains queries q × IsAskedFor q source depth)
+abbrev pub IsWantedBy : List RunningQuery → ℕ → ℕ → Type 0
+IsWantedBy queries source depth = (depth ≡ 0) ⊎ ((q : RunningQuery) × Contains queries q × IsAskedFor q source depth)
 
 -- the grade of an object in a list of this source is certain for one of these queries
-abbrev pub IsNamedBy : List Inquiry → ℕ → ℕ → Type 0
-IsNamedBy queries source object = (q : Inquiry) × Contains queries q × AsksGradeOf q source object
+abbrev pub IsNamedBy : List RunningQuery → ℕ → ℕ → Type 0
+IsNamedBy queries source object = (q : RunningQuery) × Contains queries q × AsksGradeOf q source object
 
 -- a table agrees with what a query read; how many grades the runs of queries on tables ask a source for
-abbrev pub AgreesWithRead : Inquiry → List (List Row) → Type 0
+abbrev pub AgreesWithRead : RunningQuery → List (List Row) → Type 0
 AgreesWithRead q D = AgreesWith D (state_of q.machine).log
 
-abbrev pub all_grades_on : List Inquiry → List (List (List Row)) → ℕ → ℕ
+abbrev pub all_grades_on : List RunningQuery → List (List (List Row)) → ℕ → ℕ
 all_grades_on (q ∷ queries) (D ∷ tables) source = grades_on q source D + all_grades_on queries tables source
 all_grades_on _ _ source = 0
 
@@ -75,7 +75,7 @@ all_grades_on _ _ source = 0
 -- on such tables ask for, each of an object whose grade is certain for one of them; the rows that it gave
 -- are within the reach of the greatest depth that was wanted, whatever the number of the queries; and a grade was given for each object once at most,
 -- and settled it; and what the log has of rows and of faults came of so many rows
-pub record IsUsed (settings : Settings) (queries : List Inquiry) (source : ℕ) (s : State) (before now : Counts) (used : Use) : Type 0 where
+pub record IsUsed (settings : Settings) (queries : List RunningQuery) (source : ℕ) (s : State) (before now : Counts) (used : Use) : Type 0 where
   pub want : used.want ≡ s.want
   pub wanted : IsWantedBy queries source used.want
   pub asks : used.asks ≡ length s.asks
@@ -101,7 +101,7 @@ pub record IsReplaced (version : ℕ) (before now : Counts) (had other : ℕ) : 
 
 -- the fails that refused queries, of either kind: the calls of the source that failed so, by its closing state, are counted, and the queries that
 -- are refused for one are no more than the workers times these calls; and by its closing log its list was replaced only where it was at this version and that is counted
-pub record HasCounted (workers : ℕ) (queries : List Inquiry) (source : ℕ) (s : State) (version : ℕ) (before now : Counts) : Type 0 where
+pub record HasCounted (workers : ℕ) (queries : List RunningQuery) (source : ℕ) (s : State) (version : ℕ) (before now : Counts) : Type 0 where
   pub failed : IsFewFor workers (count_by (is_refused_for kind.Failed source) queries) s.tally.failed before.faults now.faults
   pub garbled : IsFewFor workers (count_by (is_refused_for kind.Garbled source) queries) s.tally.garbled before.garbles now.garbles
   pub moved : (had other : ℕ) → TellsMove s.log had other → IsReplaced version before now had other

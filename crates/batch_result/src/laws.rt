@@ -39,7 +39,7 @@ pub fn told_tables_bound_the_uses()
         → KeepsEach (list_at lists source) (state_at ran.states source) (use_at batch.uses source) }
 {}
 
-/// Where memory was wanting for a batch the same bounds hold of what was read by then: no row of a source is wanted below the greatest depth to which
+/// Where a batch ran out of memory the same bounds hold of what was read by then: no row of a source is wanted below the greatest depth to which
 /// the one run of a query reads it, no more rows come than its reach, no more objects are asked than these runs make random accesses to it, no more
 /// grades come, and each row that came is kept. And whatever the sources tell, one whose list can't be read in order gave no row.
 pub fn told_tables_bound_a_cut_batch()

@@ -25,7 +25,7 @@ use Rattle.source_pool.specs.Sharing.{first_feed}
 use Rattle.source_pool.specs.Closed.{HaveAll, IsClosed, AreClosed}
 use Rattle.query_core.specs.declared.ready.Ready.{Ready}
 use Rattle.query_run.specs.declared.ended.Ended.{Ended}
-use Rattle.query_run.specs.declared.inquiry.Inquiry.{Inquiry}
+use Rattle.query_run.specs.declared.running_query.RunningQuery.{RunningQuery}
 use Rattle.query_run.specs.Inquiries.{source_needed}
 use Rattle.query_run.specs.Kept.{IsServed}
 use Rattle.query_run.specs.Made.{IsOf}
@@ -224,14 +224,14 @@ ended_at states holds ready end many ahead sound shut h =
     }
 
 -- a query that began, over the closing states
-pub record IsOver (states : List State) (ready : Ready) (q : Inquiry) : Type 0 where
+pub record IsOver (states : List State) (ready : Ready) (q : RunningQuery) : Type 0 where
   pub of : IsOf ready q
   pub served : IsServed states q
 
-abbrev OverIf : List State → Ready → Option Inquiry → Type 0
+abbrev OverIf : List State → Ready → Option RunningQuery → Type 0
 OverIf states ready one = IfSome one (IsOver states ready)
 
-over_at : (states : List State) (holds : List Hold) (ready : Ready) (one : Option Inquiry) → length states ≡ length holds
+over_at : (states : List State) (holds : List Hold) (ready : Ready) (one : Option RunningQuery) → length states ≡ length holds
     → ((source : ℕ) → source < length holds → IsAhead (hold_at holds source).pass.1 (state_at states source))
     → ((source : ℕ) → source < length holds → IsSound (state_at states source))
     → ((source : ℕ) → source < length holds → Shut (state_at states source).log)
@@ -252,11 +252,11 @@ over_at states holds ready (Some q) many ahead sound shut h =
           h.served;
     }
 
-over_of : (states : List State) (ready : Ready) (one : Option Inquiry) → OverIf states ready one → IsOfBegun ready one
+over_of : (states : List State) (ready : Ready) (one : Option RunningQuery) → OverIf states ready one → IsOfBegun ready one
 over_of states ready None h = tt
 over_of states ready (Some q) h = h.of
 
-over_served : (states : List State) (readies : List Ready) (stood : List (Option Inquiry)) → AllZip (OverIf states) readies stood
+over_served : (states : List State) (readies : List Ready) (stood : List (Option RunningQuery)) → AllZip (OverIf states) readies stood
     → All (IsServed states) (begun stood)
 over_served states [] [] h = All-nil (IsServed states)
 over_served states [] (one ∷ stood) h = absurd h
@@ -265,12 +265,12 @@ over_served states (ready ∷ readies) (None ∷ stood) h = over_served states r
 over_served states (ready ∷ readies) (Some q ∷ stood) h = All-cons (IsServed states) q (begun stood) h.0.served (over_served states readies stood h.1)
 
 -- how a worker's queries stood, by its number
-pub record BeganAt (workers : ℕ) (readies : List Ready) (number : ℕ) (worker : Worker) (stood : List (Option Inquiry)) : Type 0 where
+pub record BeganAt (workers : ℕ) (readies : List Ready) (number : ℕ) (worker : Worker) (stood : List (Option RunningQuery)) : Type 0 where
   pub each : AllZip (StoodIf worker.pass) (share workers number readies) stood
   pub did : (source : ℕ) → DidOf (begun stood) source (hold_at worker.pass source)
 
 began_at : (pool : List TableId) (counts : List ℕ) (workers : ℕ) (readies : List Ready) (number : ℕ) (worker : Worker)
-    → HasLeft pool counts workers readies number worker → (stood : List (Option Inquiry)) × BeganAt workers readies number worker stood
+    → HasLeft pool counts workers readies number worker → (stood : List (Option RunningQuery)) × BeganAt workers readies number worker stood
 began_at pool counts workers readies number worker h = (
   h.began.stood,
   record { each = subst (λ n. AllZip (StoodIf worker.pass) (share workers n readies) h.began.stood) h.number_is h.began.each; did = h.began.did },
@@ -283,7 +283,7 @@ all_began pool counts readies workers left =
     picked (BeganAt (length workers) readies) [] workers (λ i d l. began_at pool counts (length workers) readies i (slice_index_or workers i d) (left i d l))
 
 -- the queries that began, and where they stood
-begun_from : (stood : List (Option Inquiry)) (q : Inquiry) → Contains (begun stood) q → Contains stood (Some q)
+begun_from : (stood : List (Option RunningQuery)) (q : RunningQuery) → Contains (begun stood) q → Contains stood (Some q)
 begun_from [] q c = absurd (contains_nil q c)
 begun_from (None ∷ stood) q c = contains_there None stood (Some q) (begun_from stood q c)
 begun_from (Some p ∷ stood) q c = elim (contains_cases p (begun stood) q c) [
@@ -291,7 +291,7 @@ begun_from (Some p ∷ stood) q c = elim (contains_cases p (begun stood) q c) [
   | inr there ↦ contains_there (Some p) stood (Some q) (begun_from stood q there)
 ]
 
-begun_has : (stood : List (Option Inquiry)) (q : Inquiry) → Contains stood (Some q) → Contains (begun stood) q
+begun_has : (stood : List (Option RunningQuery)) (q : RunningQuery) → Contains stood (Some q) → Contains (begun stood) q
 begun_has [] q c = absurd (contains_nil (Some q) c)
 begun_has (None ∷ stood) q c = elim (contains_cases None stood (Some q) c) [
   | inl bad ↦ absurd (none_not_some bad)
@@ -299,7 +299,7 @@ begun_has (None ∷ stood) q c = elim (contains_cases None stood (Some q) c) [
 ]
 begun_has (Some p ∷ stood) q c = elim (contains_cases (Some p) stood (Some q) c) [
   | inl same ↦
-      let is : p ≡ q = ap (λ (o : Option Inquiry). unwrap_or o p) same in
+      let is : p ≡ q = ap (λ (o : Option RunningQuery). unwrap_or o p) same in
       subst (Contains (p ∷ begun stood)) is (contains_here p (begun stood))
   | inr there ↦ contains_there p (begun stood) q (begun_has stood q there)
 ]
@@ -387,13 +387,13 @@ module _ (pool : List TableId) (settings : Settings) (counts : List ℕ) (readie
   told_before source s = map_at (λ (slot : SlotState). slot.told) before source _ _ (let e = h.slots.0 in omega (arith, s, e))
 
   -- with how the queries of each worker stood
-  module _ (stood : List (Option Inquiry))
+  module _ (stood : List (Option RunningQuery))
       (did : (i : ℕ) (d : Worker) → i < length workers → (source : ℕ)
       → DidOf (begun (share_from (length workers) i 0 stood)) source (hold_at (slice_index_or workers i d).pass source)) where
-    abbrev those : List Inquiry
+    abbrev those : List RunningQuery
     those = begun stood
 
-    within : (i : ℕ) (q : Inquiry) → Contains (begun (share_from (length workers) i 0 stood)) q → Contains those q
+    within : (i : ℕ) (q : RunningQuery) → Contains (begun (share_from (length workers) i 0 stood)) q → Contains those q
     within i q c = begun_has stood q (share_member (length workers) i 0 stood (Some q) (begun_from (share_from (length workers) i 0 stood) q c))
 
     -- the greatest depth that was wanted
@@ -488,7 +488,7 @@ module _ (pool : List TableId) (settings : Settings) (counts : List ℕ) (readie
           (subst (λ c. IsUsed settings those source (state_at states source) (slot_at before source).counts c (use_at uses source)) (sym (counts_now source s)) (used_by source s));
     }
 
-  overs : (i : ℕ) (d : Worker) → i < length workers → (ready : Ready) (one : Option Inquiry) → StoodIf (slice_index_or workers i d).pass ready one
+  overs : (i : ℕ) (d : Worker) → i < length workers → (ready : Ready) (one : Option RunningQuery) → StoodIf (slice_index_or workers i d).pass ready one
       → OverIf states ready one
   overs i d l ready one is =
       let size = h.base_is.size in
@@ -533,7 +533,7 @@ module _ (pool : List TableId) (settings : Settings) (counts : List ℕ) (readie
     abbrev pub ends : List End
     ends = whole.whole
 
-    abbrev pub queries : List Inquiry
+    abbrev pub queries : List RunningQuery
     queries = map (λ (end : End). end.0) ends
 
     -- what a worker did, by its number
@@ -619,7 +619,7 @@ module _ (pool : List TableId) (settings : Settings) (counts : List ℕ) (readie
         }
 
     -- all of them began
-    abbrev began : List (Option Inquiry)
+    abbrev began : List (Option RunningQuery)
     began = map (λ (end : End). Some end.0) ends
 
     did_ended : (i : ℕ) (d : Worker) → i < length workers → (source : ℕ)

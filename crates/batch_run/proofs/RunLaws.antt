@@ -99,12 +99,12 @@ pub failed_so : {A E P Q : Type 0} (r : Result A E) → (P → Q) → OnErr r P 
 failed_so (Ok x) f h = tt
 failed_so (Err e) f h = f h
 
--- whether none wanted memory, as it is told
+-- whether none ran out of memory, as it is told
 pub none_wants : (wants told : Bool) → told ≡ not wants → told ≡ true → wants ≡ false
 none_wants true told is enough = let bad : true ≡ false = sym enough ∙ is in absurd (cc)
 none_wants false told is enough = refl
 
--- no worker wanted memory
+-- no worker ran out of memory
 pub none_short : (workers : List Worker) → list_any (λ (w : Worker). w.short) workers ≡ false → (i : ℕ) (d : Worker) → i < length workers
     → (slice_index_or workers i d).short ≡ false
 none_short [] e i d l = absurd (omega (arith, l))

@@ -9,7 +9,7 @@ use Rattle.source_api.specs.Told.{HasEachOnce}
 use Rattle.source_state.specs.State.{State, opened, state_at}
 use Rattle.source_state.proofs.Lists.{none_not_some}
 use Rattle.query_core.specs.declared.ready.Ready.{Ready}
-use Rattle.query_run.specs.declared.inquiry.Inquiry.{Inquiry}
+use Rattle.query_run.specs.declared.running_query.RunningQuery.{RunningQuery}
 use Rattle.query_run.specs.Made.{opened_from}
 use Rattle.query_run.specs.Kept.{IsServed}
 use Rattle.query_run.proofs.TurnOpening.{opened_length, opened_sound}
@@ -113,5 +113,5 @@ module _ {S : Type 0} (list : S → Option (List Row)) (counts : S → Counts) (
         states = opened_from 0 sizes;
         uses = none;
         of = nones_of readies;
-        read = subst (λ (qs : List Inquiry). IsReadBy run qs (opened_from 0 sizes) none) (sym (nones_begun readies)) read;
+        read = subst (λ (qs : List RunningQuery). IsReadBy run qs (opened_from 0 sizes) none) (sym (nones_begun readies)) read;
       }

@@ -20,7 +20,7 @@ use Rattle.query_core.specs.declared.ready.Ready.{Ready}
 use Rattle.query_run.specs.declared.ended.Ended.{Ended}
 use Rattle.query_run.specs.declared.ended.Refusal.{Refusal}
 use Rattle.query_run.specs.declared.ended.Refusal.TheVariants.{Core, Look}
-use Rattle.query_run.specs.declared.inquiry.Inquiry.{Inquiry}
+use Rattle.query_run.specs.declared.running_query.RunningQuery.{RunningQuery}
 use Rattle.query_run.specs.Endings.{IsRight}
 use Rattle.query_run.specs.Inquiries.{source_of}
 use Rattle.query_run.specs.Advancing.{KnowsMore, HasSourcesIn, IsSourceIn, KnowsAll, Advances}
@@ -70,14 +70,14 @@ at_source f fault shown false true e = e
 at_source f fault shown true false e = refl
 at_source f fault shown false false e = refl
 
-shown_failed : (q : Inquiry) (r : Option Refusal) (source : ℕ) (shown : Tally)
+shown_failed : (q : RunningQuery) (r : Option Refusal) (source : ℕ) (shown : Tally)
     → (shown_to q r source shown).failed ≡ cond (refuses_for kind.Failed source q r) (one_more shown.failed) shown.failed
 shown_failed q None source shown = refl
 shown_failed q (Some (Core fault)) source shown = refl
 shown_failed q (Some (Look list fault)) source shown =
     at_source (λ t. t.failed) fault shown (is_fail kind.Failed fault) (source_of q list == source) (failed_by_fault fault shown)
 
-shown_garbled : (q : Inquiry) (r : Option Refusal) (source : ℕ) (shown : Tally)
+shown_garbled : (q : RunningQuery) (r : Option Refusal) (source : ℕ) (shown : Tally)
     → (shown_to q r source shown).garbled ≡ cond (refuses_for kind.Garbled source q r) (one_more shown.garbled) shown.garbled
 shown_garbled q None source shown = refl
 shown_garbled q (Some (Core fault)) source shown = refl
@@ -90,7 +90,7 @@ one_counted : (b : Bool) (count before now : ℕ) → min count last_count ≤ b
 one_counted true count before now h e = omega (arith, h, e)
 one_counted false count before now h e = omega (arith, h, e)
 
-wanted_on : (queries : List Inquiry) (q : Inquiry) (source high more : ℕ) → more ≤ high → IsWantedBy queries source high
+wanted_on : (queries : List RunningQuery) (q : RunningQuery) (source high more : ℕ) → more ≤ high → IsWantedBy queries source high
     → IsWantedBy (queries ++ q ∷ []) source more
 wanted_on queries q source high more le (inl none) = inl (omega (arith, le, none))
 wanted_on queries q source high more le (inr some) =
@@ -105,10 +105,10 @@ wanted_on queries q source high more le (inr some) =
       },
     )
 
-named_on : (queries : List Inquiry) (q : Inquiry) (source object : ℕ) → IsNamedBy queries source object → IsNamedBy (queries ++ q ∷ []) source object
+named_on : (queries : List RunningQuery) (q : RunningQuery) (source object : ℕ) → IsNamedBy queries source object → IsNamedBy (queries ++ q ∷ []) source object
 named_on queries q source object some = (some.0, Contains-append_left queries (q ∷ []) some.0 some.1, some.2)
 
-pub did_more : (queries : List Inquiry) (q : Inquiry) (source : ℕ) (before after : Hold) → DidOf queries source before → KnowsMore before after
+pub did_more : (queries : List RunningQuery) (q : RunningQuery) (source : ℕ) (before after : Hold) → DidOf queries source before → KnowsMore before after
     → after.shown ≡ shown_to q q.refusal source before.shown → Wanted q source before.pass.1 after.pass.1 → DidOf (queries ++ q ∷ []) source after
 did_more queries q source before after did more shown wanted = record {
   rows = elim wanted.rows [
@@ -146,7 +146,7 @@ end_on before after knows ready end h = record {
 ran_ended : (ready : Ready) (before after : List Hold) (ended : Ended) → Ran ready before after ended → RanSome ready before after
 ran_ended ready before after ended ran = inr (ran.q, record { of = ran.of; served = ran.served; uses = ran.uses })
 
--- after one query more, which ended, or for which memory was wanted
+-- after one query more, which ended, or for which memory ran out
 pub ran_one : (ready : Ready) (before after : Worker) (pass : List Hold) (ended : Ended) → after.number ≡ before.number → after.pass ≡ pass
     → (after.short ≡ false → after.ended.items ≡ before.ended.items ++ ended ∷ []) → Advances ready.sources.items before.pass pass
     → Ran ready before.pass pass ended → IsRight ready ended → RanOne ready before after
@@ -273,16 +273,16 @@ passed_by workers place readies worker l apart h =
     ran_past workers place readies ready.item worker l ready.is apart h
 
 -- ---- the queries that began
-begun_push : (stood : List (Option Inquiry)) (one : Option Inquiry) → begun (stood ++ one ∷ []) ≡ begun stood ++ begun (one ∷ [])
+begun_push : (stood : List (Option RunningQuery)) (one : Option RunningQuery) → begun (stood ++ one ∷ []) ≡ begun stood ++ begun (one ∷ [])
 begun_push [] one = refl
 begun_push (None ∷ stood) one = begun_push stood one
 begun_push (Some q ∷ stood) one = ap (λ qs. q ∷ qs) (begun_push stood one)
 
-no_query_more : (qs : List Inquiry) → qs ++ [] ≡ qs
+no_query_more : (qs : List RunningQuery) → qs ++ [] ≡ qs
 no_query_more [] = refl
 no_query_more (q ∷ qs) = ap (λ rs. q ∷ rs) (no_query_more qs)
 
-stood_on : (before after : List Hold) → KnowsAll before after → (ready : Ready) (one : Option Inquiry) → StoodIf before ready one → StoodIf after ready one
+stood_on : (before after : List Hold) → KnowsAll before after → (ready : Ready) (one : Option RunningQuery) → StoodIf before ready one → StoodIf after ready one
 stood_on before after knows ready None h = tt
 stood_on before after knows ready (Some q) h = record { of = h.of; then_held = h.then_held; served = h.served; since = knows_on h.then_held before after h.since knows }
 
@@ -291,7 +291,7 @@ pub begun_none : (workers : ℕ) (worker : Worker) → ((source : ℕ) → DidOf
 begun_none workers worker idle = record { stood = []; each = tt; did = idle }
 
 -- none of some queries began
-abbrev pub nones : List Ready → List (Option Inquiry)
+abbrev pub nones : List Ready → List (Option RunningQuery)
 nones [] = []
 nones (ready ∷ readies) = None ∷ nones readies
 
@@ -314,7 +314,7 @@ begun_idle workers readies worker idle =
     }
 
 -- the share grew by a query, which stood so
-begun_more : (workers place : ℕ) (readies : List Ready) (ready : Ready) (before after : Worker) (one : Option Inquiry) → place < length readies
+begun_more : (workers place : ℕ) (readies : List Ready) (ready : Ready) (before after : Worker) (one : Option RunningQuery) → place < length readies
     → ready ≡ slice_index_or readies place ready
     → place % workers ≡ before.number → after.number ≡ before.number → KnowsAll before.pass after.pass → (h : HasBegun workers (take place readies) before)
     → StoodIf after.pass ready one → ((source : ℕ) → DidOf (begun h.stood ++ begun (one ∷ [])) source (hold_at after.pass source))

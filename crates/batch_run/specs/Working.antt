@@ -11,7 +11,7 @@ use Rattle.source_pool.specs.Looks.{IsWithin}
 use Rattle.query_core.specs.declared.ready.Ready.{Ready}
 use Rattle.query_core.specs.Ready.{IsReady}
 use Rattle.query_run.specs.declared.ended.Ended.{Ended}
-use Rattle.query_run.specs.declared.inquiry.Inquiry.{Inquiry}
+use Rattle.query_run.specs.declared.running_query.RunningQuery.{RunningQuery}
 use Rattle.query_run.specs.Inquiries.{source_needed}
 use Rattle.query_run.specs.Kept.{IsServed}
 use Rattle.query_run.specs.Made.{IsOf}
@@ -28,7 +28,7 @@ use Rattle.batch_result.specs.Cut.{begun}
 
 -- a query as it stood at its end, and its ending
 abbrev pub End : Type 0
-End = Inquiry × Ended
+End = RunningQuery × Ended
 
 -- a ready query ended so: what it read was drawn from what the pass knew then, and since then the pass came to know more at most; where it is refused, it
 -- is so by the turns that the pass took from what it held first on, and for no fail that the pass knew of by then
@@ -45,19 +45,19 @@ pub record IsEndOf (holds : List Hold) (ready : Ready) (end : End) : Type 0 wher
   pub since : KnowsAll then_held holds
 
 -- a ready query stood so, when it ended or was let go: what it read was drawn from what the pass knew then, and since then the pass came to know more at most
-pub record IsStood (holds : List Hold) (ready : Ready) (q : Inquiry) : Type 0 where
+pub record IsStood (holds : List Hold) (ready : Ready) (q : RunningQuery) : Type 0 where
   pub of : IsOf ready q
   pub then_held : List Hold
   pub served : IsServed (states_seen then_held) q
   pub since : KnowsAll then_held holds
 
 -- a ready query stood so, if it began
-abbrev pub StoodIf : List Hold → Ready → Option Inquiry → Type 0
+abbrev pub StoodIf : List Hold → Ready → Option RunningQuery → Type 0
 StoodIf holds ready stood = IfSome stood (IsStood holds ready)
 
 -- what these queries did of a source through a pass: it was raised no further than is certain for one of them, each ask that was added is for an object
 -- whose grade is certain for one of them, and each of them that was refused for a fail was shown one, which the pass knows of
-pub record DidOf (queries : List Inquiry) (source : ℕ) (hold : Hold) : Type 0 where
+pub record DidOf (queries : List RunningQuery) (source : ℕ) (hold : Hold) : Type 0 where
   pub rows : IsWantedBy queries source hold.pass.1.high
   pub mine : (object : ℕ) → Contains hold.pass.1.mine object → IsNamedBy queries source object
   pub failed : min (count_by (is_refused_for kind.Failed source) queries) last_count ≤ hold.shown.failed
@@ -79,7 +79,7 @@ pub record IsAtWork (pool : List TableId) (workers : ℕ) (readies : List Ready)
   pub none : worker.ended.items ≡ []
   pub idle : (source : ℕ) → DidOf [] source (hold_at worker.pass source)
 
--- a worker after one more query, which ran some way if it began: memory was wanted, or the query ended so
+-- a worker after one more query, which ran some way if it began: memory ran out, or the query ended so
 pub record RanOne (ready : Ready) (before after : Worker) : Type 0 where
   pub number : after.number ≡ before.number
   pub knows : KnowsAll before.pass after.pass
@@ -95,11 +95,11 @@ pub record RanSo (workers : ℕ) (readies : List Ready) (worker : Worker) : Type
 
 -- a worker that ran some of its share of these queries: they stood so, and did this
 pub record HasBegun (workers : ℕ) (readies : List Ready) (worker : Worker) : Type 0 where
-  pub stood : List (Option Inquiry)
+  pub stood : List (Option RunningQuery)
   pub each : AllZip (StoodIf worker.pass) (share workers worker.number readies) stood
   pub did : (source : ℕ) → DidOf (begun stood) source (hold_at worker.pass source)
 
--- a worker once it has worked: memory was wanted, or the queries of its share ended so, the last one first
+-- a worker once it has worked: memory ran out, or the queries of its share ended so, the last one first
 pub record HasWorked (workers : ℕ) (readies : List Ready) (worker : Worker) : Type 0 where
   pub ends : List End
   pub ran : RanAll (share workers worker.number readies) worker ends

@@ -46,14 +46,14 @@ fn gather(workers: &mut Vec<Worker>, count: usize, endings: &mut Vec<Ended>)
     }
 }
 
-/// Whether a worker wanted memory.
+/// Whether a worker ran out of memory.
 fn is_short(workers: &Vec<Worker>) -> bool
     ensures { result ≡ list_any (λ worker. worker.short) workers.now.items }
 {
     workers.iter().any(|worker| worker.short)
 }
 
-/// Takes how the queries ended from the workers where none of them wanted memory. Whether that is so.
+/// Takes how the queries ended from the workers where none of them ran out of memory. Whether that is so.
 fn gather_all(workers: &mut Vec<Worker>, count: usize, endings: &mut Vec<Ended>) -> bool
     requires shares { list_any (λ worker. worker.short) workers.old.items ≡ false → (whole : List EndedOf) × (length whole ≡ count) × AreShares whole workers.old.items }
     requires some { 0 < vec_len workers.old }
@@ -99,7 +99,7 @@ fn use_all<S: Source>(states: &States, slots: &[Slot<S>], uses: &mut Vec<Use>)
     }
 }
 
-/// What the batch gives, once its crew has run; none where a worker wanted memory. The pool is closed in either case.
+/// What the batch gives, once its crew has run; none where a worker ran out of memory. The pool is closed in either case.
 pub(crate) fn finish<S: Source>(
     crew: Crew,
     slots: &[Slot<S>],

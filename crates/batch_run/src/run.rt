@@ -28,7 +28,7 @@ use topk_base::MAX_OBJECTS;
 /// from 0 leaves its own number as the remainder. What it needs of a source and no other thread fetches it fetches itself, so that no
 /// query needs another thread; the fetchers read ahead. A call may wait for ever.
 ///
-/// A batch comes only once all queries have ended. Where memory was wanted there is none; what the sources gave by then is within the same
+/// A batch comes only once all queries have ended. Where memory ran out there is none; what the sources gave by then is within the same
 /// bounds, those of what the queries that had begun asked for, and nothing where none had.
 ///
 /// *Cost*: a pool, a pass for each worker, a lock of the slots, and room for the endings; then each query one `run_query_by`, each source

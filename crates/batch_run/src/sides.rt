@@ -106,7 +106,7 @@ fn run_posts<W: Threads + Wait + Sync, S: Source>(
     );
 }
 
-/// Tells all workers that memory was wanted.
+/// Tells all workers that memory ran out.
 fn spare(workers: &mut [Worker])
     ensures { AreSpared workers.old workers.new }
 {
@@ -117,7 +117,7 @@ fn spare(workers: &mut [Worker])
 }
 
 /// The posts are opened, and both sides run over them. What a worker needs of a source, and no other thread fetches, it fetches
-/// itself; the fetchers read ahead. Where memory is wanted no query runs, and each worker is short of it.
+/// itself; the fetchers read ahead. Where memory runs out no query runs, and each worker is short of it.
 pub fn run_sides<W: Threads + Wait + Sync, S: Source>(
     rt: &W,
     alloc: Global,

@@ -26,7 +26,7 @@ pub struct Worker {
     pub pass: PoolPass,
     /// How its queries ended: in their order while it works, and once it has worked the last one first.
     pub ended: Vec<Ended>,
-    /// Whether memory was wanted. From then on it runs no query.
+    /// Whether memory ran out. From then on it runs no query.
     pub short: bool,
 }
 
@@ -102,7 +102,7 @@ fn run_one<P, F: Fn(u32, u64, &mut P), G: Fn(u32) -> bool, H: Fn(u32)>(
 }
 
 /// Runs, in their order, the queries whose place leaves the worker's number as the remainder when it is divided by the number of workers, and
-/// takes turns at the posts itself. Where memory is wanted it runs no more.
+/// takes turns at the posts itself. Where memory runs out it runs no more.
 pub(crate) fn work<W: Wait, S: Source>(
     rt: &W,
     alloc: Global,

@@ -12,7 +12,7 @@ use Rattle.query_text.specs.declared.query.Query.{Query}
 use Rattle.query_core.specs.declared.ready.Ready.{Ready}
 use Rattle.query_core.specs.Methods.{method_with}
 use Rattle.query_core.specs.OneAnswer.{one_run_with}
-use Rattle.query_run.specs.declared.inquiry.Inquiry.{Inquiry}
+use Rattle.query_run.specs.declared.running_query.RunningQuery.{RunningQuery}
 use Rattle.fetcher.specs.declared.slot.Slot.{Slot}
 use Rattle.fetcher.specs.Metering.{WentUp}
 use Rattle.fetcher.proofs.ReachLaws.{reach_more, reach_within}
@@ -111,7 +111,7 @@ module _ (input : BulkInput) (settings : Settings) (counts : List ℕ) (readies 
       sym (length-map now (λ (slot : Slot Held). told_rows slot.source)) ∙ ap length same ∙ length-map before (λ (slot : Slot Held). told_rows slot.source)
       ∙ slots_long input.start input.count input.lists before fresh ∙ sym (counts_long input counts counted)
 
-  read_by : (queries : List Inquiry) (states : List State) (uses : List Use) → IsReadBy R queries states uses
+  read_by : (queries : List RunningQuery) (states : List State) (uses : List Use) → IsReadBy R queries states uses
       → ((source : ℕ) → source < length counts → IsWithin settings (size_at counts source) source (one_readings (table_of input) readies) (use_at uses source))
       → AreReadSparingly input settings now
   read_by queries states uses read within = λ list d l.
@@ -143,7 +143,7 @@ module _ (input : BulkInput) (settings : Settings) (counts : List ℕ) (readies 
   told : R.told ≡ map Some (table_of input)
   told = ap (λ (slots : List (Slot Held)). map (λ (slot : Slot Held). told_rows slot.source) slots) fresh ∙ table_told input.start input.count input.lists
 
-  -- where memory was wanting
+  -- where memory ran out
   pub cut_sparingly : CutTablesBound → IsCut R → AreReadSparingly input settings now
   cut_sparingly law cut =
       read_by (begun cut.stood) cut.states cut.uses cut.read (λ source l. law R cut (table_of input) told (all_have_tables input readies made) source l)

@@ -73,7 +73,7 @@ fn list_counts(alloc: Global, input: BulkInput) -> Result<Vec<u32>, Memory>
     Ok(counts)
 }
 
-/// Makes the queries and runs them over the sources of the table, for who keeps these to see what was read. Whether memory was wanting or not, no
+/// Makes the queries and runs them over the sources of the table, for who keeps these to see what was read. Whether memory ran out or not, no
 /// source gives a row beyond the reach of the greatest depth to which the one run of a query reads it, nor more grades than these runs make random
 /// accesses to it.
 ///
@@ -116,7 +116,7 @@ fn run_queries<W: Threads + Wait + Sync>(
     ensures read { AreReadSparingly input settings slots.new.items }
     ensures ended { IfOk result (λ endings. AllEndInOne input endings.items) }
 {
-    // Made sources tell a table: by these laws no more is read of it than by the one runs of the queries, where memory is wanting too.
+    // Made sources tell a table: by these laws no more is read of it than by the one runs of the queries, where memory runs out too.
     told_tables_bound_the_uses();
     told_tables_bound_a_cut_batch();
     let Ok(batch) = run_all(rt, alloc, slots, counts, readies, settings) else {

@@ -19,7 +19,7 @@ use Rattle.query_core.specs.Ready.{method_of_ready}
 use Rattle.query_core.proofs.ListCount.{lists_counted}
 use Rattle.query_admission.specs.View.{AreListed, AreTold, versions_at, sorted_at, count_of}
 use Rattle.query_admission.specs.Admission.{IsAdmitted, RefusesLine}
-use Rattle.query_admission.specs.declared.lists.Listed.{Listed}
+use Rattle.query_admission.specs.declared.lists.ListInfo.{ListInfo}
 use Rattle.machine_base.specs.declared.answer.Answer.{Answer}
 use Rattle.query_text.specs.declared.query.Query.{Query}
 use Rattle.cert_text.specs.declared.refusal.Refusal.{Refusal}
@@ -57,11 +57,11 @@ table_within n lists D table within = record {
 }
 
 -- a list that was found stands in the bundle, and states the number of its rows
-record IsPlaced (c : Content) (n : ℕ) (list : Listed) : Type 0 where
+record IsPlaced (c : Content) (n : ℕ) (list : ListInfo) : Type 0 where
   within : list.source < length c.lists
   size : list.size ≡ Some n
 
-placed : (c : Content) (n : ℕ) (name : List ℕ) (list : Listed) → IsBundle c → IsTable n c.lists → (bundle_view c).listed name ≡ Some list → IsPlaced c n list
+placed : (c : Content) (n : ℕ) (name : List ℕ) (list : ListInfo) → IsBundle c → IsTable n c.lists → (bundle_view c).listed name ≡ Some list → IsPlaced c n list
 placed c n name list bundle table e = at_place (bundle_place c name) refl e
   where
     at_place : (p : Option ℕ) → bundle_place c name ≡ p → option_map (bundle_listed c) p ≡ Some list → IsPlaced c n list
@@ -73,7 +73,7 @@ placed c n name list bundle table e = at_place (bundle_place c name) refl e
         let long : length (list_at c.lists place) ≡ n = list_at_length n c.lists place table within in
         subst (IsPlaced c n) same (record { within = within; size = ap Some long })
 
-all_placed : (c : Content) (n : ℕ) (names : List (List ℕ)) (lists : List Listed) → IsBundle c → IsTable n c.lists
+all_placed : (c : Content) (n : ℕ) (names : List (List ℕ)) (lists : List ListInfo) → IsBundle c → IsTable n c.lists
     → map (bundle_view c).listed names ≡ map Some lists → AllByRecursion (IsPlaced c n) lists
 all_placed c n [] [] bundle table e = tt
 all_placed c n [] (list ∷ lists) bundle table e = absurd cc
@@ -84,12 +84,12 @@ all_placed c n (name ∷ names) (list ∷ lists) bundle table e =
     (placed c n name list bundle table here, all_placed c n names lists bundle table rest)
 
 -- the lists that are told are those at the places of what was found
-told_there : (c : Content) (p : Option ℕ) (list : Listed) → option_map (bundle_listed c) p ≡ Some list
+told_there : (c : Content) (p : Option ℕ) (list : ListInfo) → option_map (bundle_listed c) p ≡ Some list
     → option_map (list_at c.lists) p ≡ Some (list_at c.lists list.source)
 told_there c None list e = absurd cc
-told_there c (Some place) list e = let same : bundle_listed c place ≡ list = cc in ap (λ (l : Listed). Some (list_at c.lists l.source)) same
+told_there c (Some place) list e = let same : bundle_listed c place ≡ list = cc in ap (λ (l : ListInfo). Some (list_at c.lists l.source)) same
 
-all_told : (c : Content) (names : List (List ℕ)) (lists : List Listed) → map (bundle_view c).listed names ≡ map Some lists
+all_told : (c : Content) (names : List (List ℕ)) (lists : List ListInfo) → map (bundle_view c).listed names ≡ map Some lists
     → map (bundle_view c).told names ≡ map Some (lists_at c (map (λ list. list.source) lists))
 all_told c [] [] e = refl
 all_told c [] (list ∷ lists) e = absurd cc
@@ -100,11 +100,11 @@ all_told c (name ∷ names) (list ∷ lists) e =
     ap (λ o. o ∷ map (bundle_view c).told names) (told_there c (bundle_place c name) list here) ∙ ap (λ os. Some (list_at c.lists list.source) ∷ os) (all_told c names lists rest)
 
 -- the lists of a bundle are all at version 0
-at_first : (c : Content) (p : Option ℕ) (list : Listed) → option_map (bundle_listed c) p ≡ Some list → list.version ≡ 0
+at_first : (c : Content) (p : Option ℕ) (list : ListInfo) → option_map (bundle_listed c) p ≡ Some list → list.version ≡ 0
 at_first c None list e = absurd cc
-at_first c (Some place) list e = let same : bundle_listed c place ≡ list = cc in sym (ap (λ (l : Listed). l.version) same)
+at_first c (Some place) list e = let same : bundle_listed c place ≡ list = cc in sym (ap (λ (l : ListInfo). l.version) same)
 
-all_at_first : (c : Content) (names : List (List ℕ)) (lists : List Listed) → map (bundle_view c).listed names ≡ map Some lists
+all_at_first : (c : Content) (names : List (List ℕ)) (lists : List ListInfo) → map (bundle_view c).listed names ≡ map Some lists
     → AllByRecursion (λ version. version ≡ 0) (versions_at lists)
 all_at_first c [] [] e = tt
 all_at_first c [] (list ∷ lists) e = absurd cc
@@ -115,20 +115,20 @@ all_at_first c (name ∷ names) (list ∷ lists) e =
     (at_first c (bundle_place c name) list here, all_at_first c names lists rest)
 
 -- so a query over them has one version for each, and that is 0
-pub versions_first : (c : Content) (q : Query) (lists : List Listed) (versions : List ℕ) → AreListed (bundle_view c) q lists → versions_at lists ≡ versions
+pub versions_first : (c : Content) (q : Query) (lists : List ListInfo) (versions : List ℕ) → AreListed (bundle_view c) q lists → versions_at lists ≡ versions
     → (length versions ≡ length q.names) × All (λ version. version ≡ 0) versions
 versions_first c q lists versions listed opened = (
-  sym (ap length opened) ∙ (length-map lists (λ (l : Listed). l.version)
-      ∙ (sym (length-map lists (λ (l : Listed). Some l)) ∙ (sym (ap length listed) ∙ length-map q.names (bundle_view c).listed))),
+  sym (ap length opened) ∙ (length-map lists (λ (l : ListInfo). l.version)
+      ∙ (sym (length-map lists (λ (l : ListInfo). Some l)) ∙ (sym (ap length listed) ∙ length-map q.names (bundle_view c).listed))),
   subst (All (λ version. version ≡ 0)) opened (All-from_recursion (λ version. version ≡ 0) (versions_at lists) (all_at_first c q.names lists listed)),
 )
 
 -- the lists of a bundle can all be read in order
-read_in_order : (c : Content) (p : Option ℕ) (list : Listed) → option_map (bundle_listed c) p ≡ Some list → list.sorted ≡ true
+read_in_order : (c : Content) (p : Option ℕ) (list : ListInfo) → option_map (bundle_listed c) p ≡ Some list → list.sorted ≡ true
 read_in_order c None list e = absurd cc
-read_in_order c (Some place) list e = let same : bundle_listed c place ≡ list = cc in sym (ap (λ (l : Listed). l.sorted) same)
+read_in_order c (Some place) list e = let same : bundle_listed c place ≡ list = cc in sym (ap (λ (l : ListInfo). l.sorted) same)
 
-all_in_order : (c : Content) (names : List (List ℕ)) (lists : List Listed) → map (bundle_view c).listed names ≡ map Some lists
+all_in_order : (c : Content) (names : List (List ℕ)) (lists : List ListInfo) → map (bundle_view c).listed names ≡ map Some lists
     → sorted_at lists ≡ replicate (length names) true
 all_in_order c [] [] e = refl
 all_in_order c [] (list ∷ lists) e = absurd cc
@@ -139,22 +139,22 @@ all_in_order c (name ∷ names) (list ∷ lists) e =
     ap (λ b. b ∷ sorted_at lists) (read_in_order c (bundle_place c name) list here) ∙ ap (λ bs. true ∷ bs) (all_in_order c names lists rest)
 
 -- so can those of a query over it, and of one that is ready
-pub listed_in_order : (c : Content) (q : Query) (lists : List Listed) → AreListed (bundle_view c) q lists → sorted_at lists ≡ replicate (length q.names) true
+pub listed_in_order : (c : Content) (q : Query) (lists : List ListInfo) → AreListed (bundle_view c) q lists → sorted_at lists ≡ replicate (length q.names) true
 listed_in_order c q lists listed = all_in_order c q.names lists listed
 
 pub ready_in_order : (c : Content) (ready : Ready) → IsAdmitted (bundle_line c) ready → ready.sorted.items ≡ replicate (length ready.query.names) true
 ready_in_order c ready admitted = sym admitted.sorted ∙ listed_in_order c ready.query admitted.lists admitted.listed
 
 -- the count of lists that each state n is n
-count_same : (lists : List Listed) (n count : ℕ) → AllByRecursion (λ list. list.size ≡ Some n) lists → count_of lists ≡ Some count → count ≡ n
+count_same : (lists : List ListInfo) (n count : ℕ) → AllByRecursion (λ list. list.size ≡ Some n) lists → count_of lists ≡ Some count → count ≡ n
 count_same [] n count each e = absurd cc
 count_same (list ∷ lists) n count each e = let here : list.size ≡ Some n = each.0 in let stated : list.size ≡ Some count = e in let same : Some count ≡ Some n = sym stated ∙ here in cc
 
-sizes : (c : Content) (n : ℕ) (lists : List Listed) → AllByRecursion (IsPlaced c n) lists → AllByRecursion (λ list. list.size ≡ Some n) lists
+sizes : (c : Content) (n : ℕ) (lists : List ListInfo) → AllByRecursion (IsPlaced c n) lists → AllByRecursion (λ list. list.size ≡ Some n) lists
 sizes c n [] each = tt
 sizes c n (list ∷ lists) each = (each.0.size, sizes c n lists each.1)
 
-sources_within : (c : Content) (n : ℕ) (lists : List Listed) → AllByRecursion (IsPlaced c n) lists
+sources_within : (c : Content) (n : ℕ) (lists : List ListInfo) → AllByRecursion (IsPlaced c n) lists
     → AllByRecursion (λ place. place < length c.lists) (map (λ list. list.source) lists)
 sources_within c n [] each = tt
 sources_within c n (list ∷ lists) each = (each.0.within, sources_within c n lists each.1)
@@ -232,7 +232,7 @@ pub record ToldTable (c : Content) (q : Query) (count : ℕ) : Type 0 where
   pub few : count ≤ 200000
   pub small : All (λ rows. All (λ row. row.object < 2 ^ 32) rows) lists
 
-pub told_table : (c : Content) (q : Query) (count : ℕ) (lists : List Listed) → IsBundle c → AreListed (bundle_view c) q lists → count_of lists ≡ Some count
+pub told_table : (c : Content) (q : Query) (count : ℕ) (lists : List ListInfo) → IsBundle c → AreListed (bundle_view c) q lists → count_of lists ≡ Some count
     → ToldTable c q count
 told_table c q count lists bundle listed counted =
     let n = bundle.table.0 in

@@ -32,7 +32,7 @@ ends_said c bytes status result text read replied said = elim said [
   | inr front ↦ subst (λ s. EndsReading Compares c s) (sym front.0) (bytes, status, text, read, replied, record { held = front.1; faults = front.2 })
 ]
 
--- or nothing was said of it for want of memory
+-- or nothing was said of it for lack of memory
 pub ends_compare : (c : Call) (bytes : List ℕ) (result : Status) → ReadWhole c bytes → SaysReply Compares bytes c.before.output c.after.output result
     → EndsReading Compares c result
 ends_compare c bytes result read said = elim said [

@@ -62,7 +62,7 @@ ends_judged c bytes status result text read replied said = elim said [
   | inr front ↦ subst (λ s. EndsReading JudgeReplies c s) (sym front.0) (bytes, status, text, read, replied, record { held = front.1; faults = front.2 })
 ]
 
--- the reply to the whole input ends so, or nothing was said of it for want of memory
+-- the reply to the whole input ends so, or nothing was said of it for lack of memory
 pub ends_one : (c : Call) (bytes : List ℕ) (result : Status) → ReadWhole c bytes → SaysReply Replies bytes c.before.output c.after.output result
     → EndsReading Replies c result
 ends_one c bytes result read said = elim said [

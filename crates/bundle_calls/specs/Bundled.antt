@@ -7,14 +7,14 @@ use Rattle.bundle_text.specs.Bundle.{Content}
 use Rattle.topk_theory.specs.Transcript.{list_at}
 use Rattle.query_admission.specs.View.{View}
 use Rattle.query_admission.specs.Causes.{QueryLine}
-use Rattle.query_admission.specs.declared.lists.Listed.{Listed}
+use Rattle.query_admission.specs.declared.lists.ListInfo.{ListInfo}
 
 -- where a name stands in a bundle
 abbrev pub bundle_place : Content → List ℕ → Option ℕ
 bundle_place c name = position (λ other. bytes_eq other name) c.names
 
 -- what the list at a place says of itself: the number of its rows, that it offers random access and can be read in order, and version 0
-abbrev pub bundle_listed : Content → ℕ → Listed
+abbrev pub bundle_listed : Content → ℕ → ListInfo
 bundle_listed c place = record { size = Some (length (list_at c.lists place)); random = true; sorted = true; source = place; version = 0 }
 
 -- the lists of a bundle by name: all are told, all offer random access, and all can be read in order

@@ -50,12 +50,12 @@ abbrev pub IsWritable : Reply → Type 0
 IsWritable (NoBundle line) = Unit {0}
 IsWritable (Line line) = IsOutcome line.query line.versions line.outcome
 
--- such a reply was said, or nothing for want of memory
+-- such a reply was said, or nothing for lack of memory
 abbrev pub SaysSome : (Status → List ℕ → Type 0) → Output → Output → Status → Type 0
 SaysSome replies before now end =
     ((end ≡ Memory) × Keeps before.held now.held × (now.faults ≡ before.faults))
     ⊎ ((status : Status) × (text : List ℕ) × replies status text × Says before now text status end)
 
--- the reply to these bytes was said, or nothing for want of memory
+-- the reply to these bytes was said, or nothing for lack of memory
 abbrev pub SaysReply : Replying → List ℕ → Output → Output → Status → Type 0
 SaysReply replies bytes before now end = SaysSome (replies bytes) before now end

@@ -7,7 +7,7 @@ ghost use Rattle.bundle_calls.specs.Bundled.{lists_at};
 
 use super::told::ToldList;
 use bundle_text::Bundle;
-use query_admission::{Listed, Lists};
+use query_admission::{ListInfo, Lists};
 use std::alloc::Global;
 use std::marker::Model;
 use topk_base::Memory;
@@ -44,11 +44,11 @@ impl<'a> Lists for Bundled<'a> {
 
     ghost view = { bundle_view };
 
-    fn find(&self, name: &[u8]) -> Option<Listed> {
+    fn find(&self, name: &[u8]) -> Option<ListInfo> {
         let Some(place) = place_of_name(&self.bundle.names, name) else {
             return None;
         };
-        Some(Listed {
+        Some(ListInfo {
             size: Some(u64::from(self.bundle.lists[place].len())),
             random: true,
             sorted: true,

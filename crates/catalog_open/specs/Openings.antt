@@ -172,7 +172,7 @@ marked_at [] marks place = 0
 marked_at (entry ∷ catalog) [] place = 0
 marked_at (entry ∷ catalog) (marked ∷ marks) place = (if marked then one_at entry.place place else 0) + marked_at catalog marks place
 
--- the source of a place was asked for so many times but for want of memory: each call gave one or failed, and is counted as that; where none failed no
+-- the source of a place was asked for so many times but for lack of memory: each call gave one or failed, and is counted as that; where none failed no
 -- failure was counted
 pub record AsksFor (calls : ℕ) (before now : PlaceCounts) : Type 0 where
   pub given : ℕ

@@ -132,7 +132,7 @@ module _ {S : Type 0} (view : S → SourceView) where
   abbrev pub AreAsked : List (OpenEntry S) → List (OpenEntry S) → Type 0
   AreAsked before now = (i : ℕ) → IsAskedAt (slice_get before i) (slice_get now i)
 
-  -- a call for the source of a place, where it is wanted, ended so: one that isn't wanted isn't asked for, and want of memory counts nothing
+  -- a call for the source of a place, where it is wanted, ended so: one that isn't wanted isn't asked for, and lack of memory counts nothing
   abbrev pub Took : Result (OpenEntry S) WantOfMemory → Bool → List ℕ → ShelfView → ShelfView → Type 0
   Took (Err _) wanted place before now = SameAtEach before.at now.at
   Took (Ok Unwanted) false place before now = SameAtEach before.at now.at

@@ -6,7 +6,7 @@ use Rattle.std.specs.Str.{bytes_eq}
 use Rattle.ranked_list.specs.declared.row.Row.{Row}
 use Rattle.catalog_text.specs.Catalog.{Listed as Entry}
 use Rattle.query_admission.specs.View.{View}
-use Rattle.query_admission.specs.declared.lists.Listed.{Listed}
+use Rattle.query_admission.specs.declared.lists.ListInfo.{ListInfo}
 use Rattle.catalog_open.specs.Entries.{entry_at, opening_at, entry_told}
 use Rattle.catalog_open.specs.declared.opened.Opening.{Opening}
 use Rattle.catalog_open.specs.declared.opened.Opening.TheVariants.{Closed, Open}
@@ -17,12 +17,12 @@ entry_named catalog name = position (λ entry. bytes_eq entry.name name) catalog
 
 -- what a list says of itself, by its entry, which has the accesses that it offers, and by what became of its source; an open one is at the version that
 -- its size stated
-abbrev pub said_of : Entry → Opening → Listed
+abbrev pub said_of : Entry → Opening → ListInfo
 said_of entry Closed = record { size = None; random = entry.random; sorted = entry.sorted; source = 0; version = 0 }
 said_of entry (Open size source version) =
     record { size = Some size; random = entry.random; sorted = entry.sorted; source = source; version = version }
 
-abbrev pub listed_at : List Entry → List Opening → ℕ → Listed
+abbrev pub listed_at : List Entry → List Opening → ℕ → ListInfo
 listed_at catalog openings place = said_of (entry_at catalog place) (opening_at openings place)
 
 -- no list is told

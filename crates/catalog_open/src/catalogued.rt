@@ -7,7 +7,7 @@ ghost use Rattle.catalog_open.specs.declared.opened.Opening.TheVariants as Openi
 
 use super::opened::Opening;
 use catalog_text::{Catalog, Entry};
-use query_admission::{Listed, Lists};
+use query_admission::{ListInfo, Lists};
 
 /// The lists of a catalog by name, with what became of its sources. A source that the openings have no place for isn't open.
 #[derive(Clone, Copy)]
@@ -27,11 +27,11 @@ fn opening_at(openings: &[Opening], place: u32) -> Opening
 }
 
 /// What the list of an entry says of itself whose source became this. One that isn't open states no size.
-pub fn said_of(entry: &Entry, opening: Opening) -> Listed
+pub fn said_of(entry: &Entry, opening: Opening) -> ListInfo
     ensures { result ≡ said_of (listed entry.now) opening }
 {
     match opening {
-        Opening::Closed => Listed {
+        Opening::Closed => ListInfo {
             size: None,
             random: entry.random,
             sorted: entry.sorted,
@@ -42,7 +42,7 @@ pub fn said_of(entry: &Entry, opening: Opening) -> Listed
             size,
             source,
             version,
-        } => Listed {
+        } => ListInfo {
             size: Some(size),
             random: entry.random,
             sorted: entry.sorted,
@@ -57,7 +57,7 @@ impl<'a> Lists for Catalogued<'a> {
 
     ghost view = { λ lists. view_over lists.catalog.now lists.openings.now nothing_told };
 
-    fn find(&self, name: &[u8]) -> Option<Listed> {
+    fn find(&self, name: &[u8]) -> Option<ListInfo> {
         let place = self.catalog.find(name)?;
         let entry = self.catalog.get(place)?;
         Some(said_of(entry, opening_at(self.openings, place)))

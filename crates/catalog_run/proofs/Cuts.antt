@@ -1,4 +1,4 @@
--- What was read by a run for which memory was wanting.
+-- What was read by a run that ran out of memory.
 use Rattle.std.proofs.Common.{◌≡◌, ◌≤◌, ◌<◌, ℕ, List, [], ◌∷◌, All, Option, None, Some, length, map, reverse, IfSome, Result, Ok, Err, OnErr, refl, sym, ap, ◌∙◌, subst, arith}
 use Rattle.std.specs.List.{AllZip}
 use Rattle.std.proofs.lemmas.List.{length-map, take_all}
@@ -9,7 +9,7 @@ use Rattle.source_api.specs.Counting.{NoneFell, no_counts}
 use Rattle.source_api.specs.Told.{HasEachOnce}
 use Rattle.query_core.specs.declared.ready.Ready.{Ready as ReadyQuery}
 use Rattle.query_admission.specs.View.{View}
-use Rattle.query_run.specs.declared.inquiry.Inquiry.{Inquiry}
+use Rattle.query_run.specs.declared.running_query.RunningQuery.{RunningQuery}
 use Rattle.query_run.specs.Made.{IsOf}
 use Rattle.fetcher.specs.declared.slot.Slot.{Slot}
 use Rattle.topk_base.specs.declared.settings.Settings.{Settings}
@@ -29,16 +29,16 @@ use Rattle.catalog_open.proofs.Opens.{opened_none}
 use Rattle.catalog_open.proofs.Unread.{none_unread, still}
 use Rattle.catalog_run.specs.OpenSources.{batch_over}
 use Rattle.catalog_run.specs.Runs.{AsksWantedOnce}
-use Rattle.catalog_run.specs.Cut.{CutOver, IsCutRun}
+use Rattle.catalog_run.specs.Cut.{CutOver, RanOutOfMemory}
 use Rattle.catalog_run.proofs.Whole.{sources_as}
 
--- ---- a batch that came to its end reads as one does for which memory was wanting
+-- ---- a batch that came to its end reads as one does that ran out of memory
 
-all_began : (queries : List Inquiry) → begun_of (map Some queries) ≡ queries
+all_began : (queries : List RunningQuery) → begun_of (map Some queries) ≡ queries
 all_began [] = refl
-all_began (q ∷ queries) = ap (λ (qs : List Inquiry). q ∷ qs) (all_began queries)
+all_began (q ∷ queries) = ap (λ (qs : List RunningQuery). q ∷ qs) (all_began queries)
 
-all_of : (readies : List ReadyQuery) (queries : List Inquiry) → AllZip IsOf readies queries → AllZip IsOfBegun readies (map Some queries)
+all_of : (readies : List ReadyQuery) (queries : List RunningQuery) → AllZip IsOf readies queries → AllZip IsOfBegun readies (map Some queries)
 all_of [] [] h = tt
 all_of [] (q ∷ queries) h = absurd h
 all_of (ready ∷ readies) [] h = absurd h
@@ -52,7 +52,7 @@ cut_whole run batch ran =
       states = ran.states;
       uses = batch.uses;
       of = all_of run.readies ran.queries ran.of;
-      read = subst (λ (qs : List Inquiry). IsReadBy run qs ran.states batch.uses) (sym (all_began ran.queries)) read;
+      read = subst (λ (qs : List RunningQuery). IsReadBy run qs ran.states batch.uses) (sym (all_began ran.queries)) read;
     }
 
 -- the batch of these queries, in other words
@@ -106,7 +106,7 @@ module _ {S : Type 0} (list : S → Option (List Row)) (counts : S → Counts) (
     cut = cut_uncalled list counts at_hand settings sizes [] slots once many small;
   }
 
-  -- so memory was wanting before the first was
+  -- so memory ran out before the first was
   pub stops_unread : (settings : Settings) (slots : List (Slot S)) (places sizes : List ℕ) (view : View) (lines : List (List ℕ)) (First : Type 0)
       → ((s : S) → IfSome (list s) HasEachOnce) → length sizes ≡ length slots → All (λ size. size ≤ 200000) sizes → All IsUnread (map (of_slot counts) slots)
       → StopsOver settings (sources_in list at_hand slots places sizes) (map (of_slot counts) slots) view lines First
@@ -125,7 +125,7 @@ pub cut_run : (catalog : List Entry) (lines : List (List ℕ)) (lists : List ℕ
     → AreOpened lists versions catalog (IsWanted catalog lines) before mid openings s → ((place : List ℕ) → GivesNothing (before place) (mid place))
     → StopsOver settings s now (view_over catalog openings nothing_told) lines ((length openings ≡ length catalog) × AsksWantedOnce catalog lines before mid)
     → PutsBack (reverse (put_back catalog s.places now)) mid after
-    → IsCutRun (record { catalog = catalog; lines = lines; lists = lists; versions = versions; settings = settings; before = before; after = after })
+    → RanOutOfMemory (record { catalog = catalog; lines = lines; lists = lists; versions = versions; settings = settings; before = before; after = after })
 cut_run catalog lines lists versions settings before mid after openings s now are idle stops back = record {
   openings = openings;
   sources = s;
@@ -140,10 +140,10 @@ cut_run catalog lines lists versions settings before mid after openings s now ar
   back = back;
 }
 
--- a run for which memory was wanting before a source was taken
+-- a run that ran out of memory before a source was taken
 pub cut_before : (catalog : List Entry) (lines : List (List ℕ)) (lists : List ℕ → Option (List Row)) (versions : List ℕ → Option ℕ) (settings : Settings)
     (at : Counted)
-    → IsCutRun (record { catalog = catalog; lines = lines; lists = lists; versions = versions; settings = settings; before = at; after = at })
+    → RanOutOfMemory (record { catalog = catalog; lines = lines; lists = lists; versions = versions; settings = settings; before = at; after = at })
 cut_before catalog lines lists versions settings at =
     cut_run catalog lines lists versions settings at at at [] (record { told = []; versions = []; places = []; counts = [] }) []
     (opened_none lists versions catalog (IsWanted catalog lines) at) (λ place. still (at place))

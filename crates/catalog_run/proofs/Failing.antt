@@ -16,7 +16,7 @@ use Rattle.source_state.specs.declared.look.LookFault.{LookFault}
 use Rattle.source_state.specs.State.{State, state_at}
 use Rattle.query_core.specs.Machines.{state_of}
 use Rattle.query_run.specs.declared.ended.Refusal.TheVariants as refusal
-use Rattle.query_run.specs.declared.inquiry.Inquiry.{Inquiry}
+use Rattle.query_run.specs.declared.running_query.RunningQuery.{RunningQuery}
 use Rattle.query_run.specs.Inquiries.{needed, list_needed, source_needed, source_of}
 use Rattle.query_run.specs.Causes.{IsCause, IsOfList}
 use Rattle.query_run.specs.Kept.{IsServed}
@@ -117,11 +117,11 @@ counted_back catalog places now source l m =
     used_one (reverse (put_back catalog places now)) one (contains_back (put_back catalog places now) one (back_one catalog places now source l m))
 
 -- the list for which a query is refused is one of its own, and that of its need
-pub record IsNeeded (q : Inquiry) (list : ℕ) : Type 0 where
+pub record IsNeeded (q : RunningQuery) (list : ℕ) : Type 0 where
   pub of : list < length q.sources.items
   pub is : source_of q list ≡ source_needed q
 
-pub refused_there : (states : List State) (q : Inquiry) (list : ℕ) (f : LookFault) → IsServed states q → q.refusal ≡ Some (refusal.Look list f)
+pub refused_there : (states : List State) (q : RunningQuery) (list : ℕ) (f : LookFault) → IsServed states q → q.refusal ≡ Some (refusal.Look list f)
     → IsNeeded q list
 refused_there states q list f served e =
     let cause : IsCause (state_at states (source_needed q)) (state_of q.machine) q.waiting.noted (Some (refusal.Look list f)) =
@@ -144,7 +144,7 @@ some_calls workers lines calls before now some few = elim (cases_lt 0 now) [
   | inr none ↦ absurd (let no_lines = no_calls workers lines calls before now few (λ rose. absurd (omega (arith, rose, none))) in omega (arith, some, no_lines))
 ]
 
-pub calls_behind : (what : FailKind) (fault : LookFault) (states : List State) (queries : List Inquiry) (q : Inquiry) (list workers calls before now : ℕ)
+pub calls_behind : (what : FailKind) (fault : LookFault) (states : List State) (queries : List RunningQuery) (q : RunningQuery) (list workers calls before now : ℕ)
     → is_fail what fault ≡ true → IsServed states q → Contains queries q → q.refusal ≡ Some (refusal.Look list fault)
     → IsFewFor workers (count_by (is_refused_for what (source_of q list)) queries) calls before now → 1 ≤ now
 calls_behind what fault states queries q list workers calls before now is served c e few =

@@ -8,7 +8,7 @@ pub mod Readies
 pub mod Writable
 pub mod Whole
 pub mod Running
--- Lemmas on runs for which memory was wanting.
+-- Lemmas on runs that ran out of memory.
 pub mod Cuts
 pub mod Failing
 -- Lemmas on runs of query lines.

@@ -4,7 +4,7 @@ use Rattle.std.specs.List.{AllZip}
 use Rattle.query_core.specs.declared.ready.Ready.{Ready as ReadyQuery}
 use Rattle.query_admission.specs.View.{View}
 use Rattle.query_run.specs.declared.ended.Ended.{Ended}
-use Rattle.query_run.specs.declared.inquiry.Inquiry.{Inquiry}
+use Rattle.query_run.specs.declared.running_query.RunningQuery.{RunningQuery}
 use Rattle.query_run.specs.Made.{IsOf}
 use Rattle.query_run.specs.Endings.{EndsAs, IsRight}
 use Rattle.catalog_open.specs.declared.admissions.Stage.{Stage}
@@ -45,12 +45,12 @@ right_fit view number lines stages readies endings are right = admitted_fit view
 
 -- the outcomes of the lines
 pub outcomes_are : (view : View) (number : ℕ) (lines : List (List ℕ)) (stages : List Stage) (readies : List ReadyQuery)
-    (queries : List Inquiry) (endings : List Ended) (outcomes : List LineOutcome)
+    (queries : List RunningQuery) (endings : List Ended) (outcomes : List LineOutcome)
     → AreAdmitted view number lines stages readies → Merges stages readies endings outcomes
     → AllZip IsOf readies queries → AllZip EndsAs queries endings → AllZip IsRight readies endings → AreOutcomes view queries number lines outcomes
 outcomes_are view number [] [] readies queries endings [] are merged of ends right = none readies queries are of
   where
-    none : (readies : List ReadyQuery) (queries : List Inquiry) → readies ≡ [] → AllZip IsOf readies queries → queries ≡ []
+    none : (readies : List ReadyQuery) (queries : List RunningQuery) → readies ≡ [] → AllZip IsOf readies queries → queries ≡ []
     none [] [] e of = refl
     none [] (q ∷ queries) e of = absurd of
     none (r ∷ readies) queries e of = absurd (cc)

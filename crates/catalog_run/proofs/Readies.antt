@@ -13,7 +13,7 @@ use Rattle.cert_text.specs.declared.refusal.Refusal.TheVariants.{ManyQueries}
 use Rattle.query_admission.specs.View.{View, versions_at}
 use Rattle.query_admission.specs.Causes.{most_queries, Cause, admission_causes, RefusesFor, NoneOf, line_over}
 use Rattle.query_admission.specs.Admission.{IsAdmitted}
-use Rattle.query_admission.specs.declared.lists.Listed.{Listed}
+use Rattle.query_admission.specs.declared.lists.ListInfo.{ListInfo}
 use Rattle.query_admission.proofs.Positions.{nothing}
 use Rattle.query_admission.proofs.ReadyLists.{admitted_states}
 use Rattle.query_run.specs.Made.{IsReadyFor}
@@ -38,18 +38,18 @@ run_count_is : (size : ℕ) → size ≤ MAX_OBJECTS → run_count size ≡ size
 run_count_is size small = ap (λ t. cond t size 0) (le-leb size MAX_OBJECTS small)
 
 module _ (lists told : List ℕ → Option (List Row)) (versions : List ℕ → Option ℕ) (catalog : List Entry) (Wanted : ℕ → Type 0) (before now : Counted) (openings : List Opening) (s : Sources) (are : AreOpened lists versions catalog Wanted before now openings s) where
-  abbrev IsThere : ℕ → Listed → Type 0
+  abbrev IsThere : ℕ → ListInfo → Type 0
   IsThere n l = HasCount s.counts n l.source × (version_at s.versions l.source ≡ l.version)
 
   -- a list that states a size is that of an open source, and at the version at hand
-  open_source : (n place : ℕ) (o : Opening) (l : Listed) → n ≤ MAX_OBJECTS → opening_at openings place ≡ o → said_of (entry_at catalog place) o ≡ l
+  open_source : (n place : ℕ) (o : Opening) (l : ListInfo) → n ≤ MAX_OBJECTS → opening_at openings place ≡ o → said_of (entry_at catalog place) o ≡ l
       → l.size ≡ Some n → IsThere n l
-  open_source n place Closed l small is said size = absurd (none_some (ap (λ (k : Listed). k.size) said ∙ size))
+  open_source n place Closed l small is said size = absurd (none_some (ap (λ (k : ListInfo). k.size) said ∙ size))
     where
       none_some : {m : ℕ} → None ≡ Some m → ⊥
       none_some e = cc
   open_source n place (Open size source version) l small is said stated =
-      let same : size ≡ n = same_Some size n (ap (λ (k : Listed). k.size) said ∙ stated) in
+      let same : size ≡ n = same_Some size n (ap (λ (k : ListInfo). k.size) said ∙ stated) in
       let within : place < length openings = elim (cases_lt place (length openings)) [
         | inl inside ↦ inside
         | inr past ↦ absurd (closed_open (sym (get_or_past openings place Closed past) ∙ is))
@@ -58,14 +58,14 @@ module _ (lists told : List ℕ → Option (List Row)) (versions : List ℕ → 
       let source_is : IsSource lists versions catalog s place size source version = opening.1 in
       let counted : slice_index_or s.counts source 0 ≡ n = source_is.counted ∙ (ap run_count same ∙ run_count_is n small) in
       let there : source < length s.counts = omega (arith, source_is.within, are.many_counts) in (
-        subst (HasCount s.counts n) (ap (λ (k : Listed). k.source) said) (there, counted),
-        ap (version_at s.versions) (sym (ap (λ (k : Listed). k.source) said)) ∙ (source_is.at.at_hand ∙ ap (λ (k : Listed). k.version) said),
+        subst (HasCount s.counts n) (ap (λ (k : ListInfo). k.source) said) (there, counted),
+        ap (version_at s.versions) (sym (ap (λ (k : ListInfo). k.source) said)) ∙ (source_is.at.at_hand ∙ ap (λ (k : ListInfo). k.version) said),
       )
     where
       closed_open : {size source version : ℕ} → Closed ≡ Open size source version → ⊥
       closed_open e = cc
 
-  named_source : (n : ℕ) (name : List ℕ) (l : Listed) → n ≤ MAX_OBJECTS → option_map (listed_at catalog openings) (entry_named catalog name) ≡ Some l
+  named_source : (n : ℕ) (name : List ℕ) (l : ListInfo) → n ≤ MAX_OBJECTS → option_map (listed_at catalog openings) (entry_named catalog name) ≡ Some l
       → l.size ≡ Some n → IsThere n l
   named_source n name l small e size = at (entry_named catalog name) e
     where
@@ -73,7 +73,7 @@ module _ (lists told : List ℕ → Option (List Row)) (versions : List ℕ → 
       at None e = absurd cc
       at (Some place) e = open_source n place (opening_at openings place) l small refl (same_Some (listed_at catalog openings place) l e) size
 
-  all_sourced : (n : ℕ) (names : List (List ℕ)) (ls : List Listed) → n ≤ MAX_OBJECTS → map (view_over catalog openings told).listed names ≡ map Some ls
+  all_sourced : (n : ℕ) (names : List (List ℕ)) (ls : List ListInfo) → n ≤ MAX_OBJECTS → map (view_over catalog openings told).listed names ≡ map Some ls
       → ((place : ℕ) → place < length ls → (slice_index_or ls place nothing).size ≡ Some n) → AllByRecursion (HasCount s.counts n) (map (λ l. l.source) ls)
   all_sourced n [] [] small e sizes = tt
   all_sourced n [] (l ∷ ls) small e sizes = absurd cc
@@ -83,9 +83,9 @@ module _ (lists told : List ℕ → Option (List Row)) (versions : List ℕ → 
       let rest : map (view_over catalog openings told).listed names ≡ map Some ls = cc in
       ((named_source n name l small here (sizes 0 (omega arith))).0, all_sourced n names ls small rest (λ place h. sizes (suc place) (omega (arith, h))))
 
-  all_at_hand : (n : ℕ) (names : List (List ℕ)) (ls : List Listed) → n ≤ MAX_OBJECTS → map (view_over catalog openings told).listed names ≡ map Some ls
+  all_at_hand : (n : ℕ) (names : List (List ℕ)) (ls : List ListInfo) → n ≤ MAX_OBJECTS → map (view_over catalog openings told).listed names ≡ map Some ls
       → ((place : ℕ) → place < length ls → (slice_index_or ls place nothing).size ≡ Some n)
-      → versions_at ls ≡ map (version_at s.versions) (map (λ (l : Listed). l.source) ls)
+      → versions_at ls ≡ map (version_at s.versions) (map (λ (l : ListInfo). l.source) ls)
   all_at_hand n [] [] small e sizes = refl
   all_at_hand n [] (l ∷ ls) small e sizes = absurd cc
   all_at_hand n (name ∷ names) [] small e sizes = refl
@@ -101,7 +101,7 @@ module _ (lists told : List ℕ → Option (List Row)) (versions : List ℕ → 
   ready_for number bytes ready admitted = record {
     is = admitted.sound;
     sources = subst (All (HasCount s.counts ready.count)) admitted.sources
-        (All-from_recursion (HasCount s.counts ready.count) (map (λ (l : Listed). l.source) admitted.lists)
+        (All-from_recursion (HasCount s.counts ready.count) (map (λ (l : ListInfo). l.source) admitted.lists)
         (all_sourced ready.count ready.query.names admitted.lists admitted.sound.counted admitted.listed (admitted_states (line_over (view_over catalog openings told) number bytes) ready admitted)));
   }
 

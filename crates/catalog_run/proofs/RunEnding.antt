@@ -69,7 +69,7 @@ text_failed place named before now trouble failed is asked cause = record {
       (subst (λ t. HasTextCause (before.at named) (now.at named) t) failed cause);
 }
 
--- it gave none for want of memory
+-- it gave none for lack of memory
 pub text_refused : (place named : List ℕ) (before now : Shelf) (trouble : Trouble) → trouble ≡ Fail fails.Memory → named ≡ place → AsksText place before now
     → HasTextCause (before.at named) (now.at named) trouble → TextRefused place before now
 text_refused place named before now trouble wants is asked cause = record {
@@ -139,7 +139,7 @@ ends_unread s text c read.Failed stands stops nothing = (stands, record { given 
 ends_unread s text c read.Long stands stops nothing = (stands, record { given = stops.0; faults = stops.1 }, nothing)
 ends_unread s text c read.Memory stands stops nothing = (inr (inl (stands, record { given = stops.0; faults = stops.1 })), nothing)
 
--- a run ends so whose lines were run, or should have been, when memory was wanting
+-- a run ends so whose lines were run, or should have been, when memory ran out
 pub ends_left : (s : Settings) (text : List ℕ) (c : Call) → LinesLeft s text c → WroteNothing c → RunsOverCatalog s text c Memory
 ends_left s text c left nothing = (inr (inr left), nothing)
 

@@ -1,4 +1,4 @@
--- Runs of query lines for which memory was wanting.
+-- Runs of query lines that ran out of memory.
 use Rattle.std.specs.Prelude.{◌≡◌, ◌<◌, ℕ, List, All, length, reverse, take}
 use Rattle.std.specs.List.{AllZip}
 use Rattle.source_api.specs.declared.counts.Counts.{Counts}
@@ -16,8 +16,8 @@ use Rattle.catalog_open.specs.Openings.{Counted, IsUnread, GivesNothing, PutsBac
 use Rattle.catalog_run.specs.OpenSources.{batch_over}
 use Rattle.catalog_run.specs.Runs.{CatalogRun, AsksWantedOnce}
 
--- memory was wanting for the lines when the first so many of them were admitted: by then those of their queries that are ready, each once, had read the open
--- sources, no count of which fell, as queries of a batch do for which memory was wanting, and no other query had
+-- memory ran out for the lines when the first so many of them were admitted: by then those of their queries that are ready, each once, had read the open
+-- sources, no count of which fell, as queries of a batch do that ran out of memory, and no other query had
 pub record CutOver (settings : Settings) (s : Sources) (begun now : List Counts) (view : View) (lines : List (List ℕ)) : Type 0 where
   pub many : length begun ≡ length s.told
   pub later : AllZip NoneFell begun now
@@ -27,9 +27,9 @@ pub record CutOver (settings : Settings) (s : Sources) (begun now : List Counts)
   pub are : AreAdmitted view 1 (take admitted lines) stages readies
   pub cut : IsCut (batch_over settings s begun now readies)
 
--- a run for which memory was wanting: sources that the lines want were opened, which reads nothing of them; lines were admitted, and read the open sources, only
+-- a run that ran out of memory: sources that the lines want were opened, which reads nothing of them; lines were admitted, and read the open sources, only
 -- once each wanted source was asked for; then the open sources were put back with what they had counted
-pub record IsCutRun (r : CatalogRun) : Type 0 where
+pub record RanOutOfMemory (r : CatalogRun) : Type 0 where
   pub openings : List Opening
   pub sources : Sources
   pub mid : Counted

@@ -14,7 +14,7 @@ use Rattle.command_line.specs.Calls.{Output}
 use Rattle.command_line.specs.Ends.{Says}
 use Rattle.catalog_run.specs.Running.{catalog_refused_text}
 
--- how a call ends for a fault of a text that should be a catalog: the fault is said, or nothing for want of memory
+-- how a call ends for a fault of a text that should be a catalog: the fault is said, or nothing for lack of memory
 abbrev pub SaysFault : Output → Output → CatalogFault → Status → Type 0
 SaysFault before now (CatalogLine line) end = Says before now (catalog_refused_text (codes "CatalogLine") line) BadCatalog end
 SaysFault before now (SameName line) end = Says before now (catalog_refused_text (codes "SameName") line) BadCatalog end

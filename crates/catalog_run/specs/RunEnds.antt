@@ -8,7 +8,7 @@ use Rattle.topk_base.specs.declared.settings.Settings.{Settings}
 use Rattle.command_line.specs.Calls.{Call, LeftAlone, KeepsShelf, ReadSome, ReadWhole, ReadFailed, ReadLong, WroteNothing, WroteWhole, WroteFront}
 use Rattle.command_line.specs.Shelves.{Shelf, GivesText, TextFailed, TextRefused}
 use Rattle.catalog_run.specs.Taking.{TakesSources}
-use Rattle.catalog_run.specs.Cut.{IsCutRun}
+use Rattle.catalog_run.specs.Cut.{RanOutOfMemory}
 use Rattle.catalog_run.specs.Running.{RefusesCatalog, RepliesToLines, lines_run}
 use Rattle.command_line.specs.declared.status.Status.{Status}
 use Rattle.command_line.specs.declared.status.Status.TheVariants.{Done, Partial, BadCatalog, LongInput, Memory}
@@ -33,16 +33,16 @@ pub record LinesReplied (settings : Settings) (text : List ℕ) (c : Call) (stat
   pub replies : RepliesToLines settings text bytes c.before.shelf c.after.shelf status said
 
 -- the text is a catalog, and the input was read to its end: no more was done than that sources were taken for its lines, read as a run reads them for which
--- memory was wanting, and put back
+-- memory ran out, and put back
 pub record LinesLeft (settings : Settings) (text : List ℕ) (c : Call) : Type 0 where
   pub catalog : List Entry
   pub is : IsCatalog (records_of text) catalog
   pub bytes : List ℕ
   pub read : ReadWhole c bytes
   pub takes : TakesSources catalog (lines bytes) c.before.shelf c.after.shelf
-  pub cut : IsCutRun (lines_run settings catalog (lines bytes) c.before.shelf c.after.shelf)
+  pub cut : RanOutOfMemory (lines_run settings catalog (lines bytes) c.before.shelf c.after.shelf)
 
--- where memory may be wanting: before the text is known to be a catalog, before the input has ended, or when its lines are run
+-- where memory may run out: before the text is known to be a catalog, before the input has ended, or when its lines are run
 abbrev pub WantsMemory : Settings → List ℕ → Call → Type 0
 WantsMemory s text c = (KeepsShelf c × LeftAlone c) ⊎ ((CatalogStands text c × ReadSome c) ⊎ LinesLeft s text c)
 

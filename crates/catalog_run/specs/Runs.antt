@@ -9,7 +9,7 @@ use Rattle.query_admission.specs.View.{View}
 use Rattle.query_admission.specs.Causes.{line_over}
 use Rattle.query_admission.specs.Admission.{IsAdmitted}
 use Rattle.query_run.specs.declared.ended.Ended.{Ended}
-use Rattle.query_run.specs.declared.inquiry.Inquiry.{Inquiry}
+use Rattle.query_run.specs.declared.running_query.RunningQuery.{RunningQuery}
 use Rattle.query_run.specs.Made.{IsOf, IsReadyFor}
 use Rattle.query_run.specs.Endings.{EndsAs, IsRight}
 use Rattle.topk_base.specs.declared.settings.Settings.{Settings}
@@ -25,7 +25,7 @@ use Rattle.query_admission.specs.declared.line_outcome.LineOutcome.{LineOutcome}
 use Rattle.line_outcome.specs.LineOutcomes.{IsLineRefused, IsEndedAs}
 
 -- the line is ready, this is its query as it stood at its end, and the outcome is how that ended: right where it is answered, and else refused as the query is
-pub record IsLineRun (view : View) (query : Inquiry) (number : ℕ) (bytes : List ℕ) (o : LineOutcome) : Type 0 where
+pub record IsLineRun (view : View) (query : RunningQuery) (number : ℕ) (bytes : List ℕ) (o : LineOutcome) : Type 0 where
   pub ready : Ready
   pub admitted : IsAdmitted (line_over view number bytes) ready
   pub of : IsOf ready query
@@ -36,11 +36,11 @@ pub record IsLineRun (view : View) (query : Inquiry) (number : ℕ) (bytes : Lis
 
 -- the lines, numbered from this number on, have these outcomes: each is refused before it runs, or the first of these queries is its own and
 -- the others are those of the lines below
-abbrev pub AreOutcomes : View → List Inquiry → ℕ → List (List ℕ) → List LineOutcome → Type 0
+abbrev pub AreOutcomes : View → List RunningQuery → ℕ → List (List ℕ) → List LineOutcome → Type 0
 AreOutcomes view queries number [] [] = queries ≡ []
 AreOutcomes view queries number (bytes ∷ lines) (o ∷ outcomes) =
     (IsLineRefused view number bytes o × AreOutcomes view queries (number + 1) lines outcomes)
-    ⊎ ((query : Inquiry) × (others : List Inquiry) × (queries ≡ query ∷ others) × IsLineRun view query number bytes o
+    ⊎ ((query : RunningQuery) × (others : List RunningQuery) × (queries ≡ query ∷ others) × IsLineRun view query number bytes o
     × AreOutcomes view others (number + 1) lines outcomes)
 AreOutcomes _ _ _ _ _ = ⊥
 

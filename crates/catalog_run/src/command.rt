@@ -112,7 +112,7 @@ fn read_status(error: ReadError) -> Status
 /// Lets a catalog go.
 fn let_catalog_go(_: Catalog) {}
 
-/// Ends for this fault of a text that should be a catalog: it is written, unless memory was wanting.
+/// Ends for this fault of a text that should be a catalog: it is written, unless memory ran out.
 pub fn refuse<K: Sink>(out: &mut K, fault: CatalogFault) -> Status
     ensures counts { K.faults out.old ≤ K.faults out.new }
     ensures says { SaysFault (output_as K.held K.faults out.old) (output_as K.held K.faults out.new) fault result }

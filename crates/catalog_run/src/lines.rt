@@ -11,7 +11,7 @@ ghost use Rattle.catalog_open.specs.Slots.{IsIdle, of_slot, sources_in};
 ghost use Rattle.catalog_open.specs.Entries.{IsMarked};
 ghost use Rattle.catalog_open.specs.Openings.{AreOpened, Counted, GivesNothing, IsKnownAt, IsUnread, KeepsOthers, Moves, Used};
 ghost use Rattle.catalog_run.specs.Runs.{AsksWantedAtMostOnce, AsksWantedOnce, IsRun, RanOver};
-ghost use Rattle.catalog_run.specs.Cut.{CutOver, IsCutRun};
+ghost use Rattle.catalog_run.specs.Cut.{CutOver, RanOutOfMemory};
 ghost use Rattle.line_outcome.specs.LineOutcomes.{CanBeWritten};
 
 use super::Memory;
@@ -63,7 +63,7 @@ pub fn run_lines<W: Threads + Wait + Sync, H: Shelf>(
       before = H.at shelf.old;
       after = H.at shelf.new;
     }) outcomes.items) }
-    ensures cut { OnErr result (IsCutRun (record {
+    ensures cut { OnErr result (RanOutOfMemory (record {
       catalog = catalog.now;
       lines = map (λ line. line.now) lines.now;
       lists = H.lists shelf.old;

@@ -58,7 +58,7 @@ impl MadeText {
         MadeText { bytes: None }
     }
 
-    /// Makes the text of the outcome of the line with this number. Where memory is wanting for it there is none.
+    /// Makes the text of the outcome of the line with this number. Where memory runs out for it there is none.
     pub(crate) fn make(&mut self, alloc: Global, number: u64, line: &LineOutcome)
         requires { CanBeWritten line.now }
         ensures { IfSome self.new (λ text. text ≡ line_text number line.now) }
@@ -74,7 +74,7 @@ impl MadeText {
     }
 }
 
-/// The text of the outcome of the line with this number, or `None` where memory is wanting for it.
+/// The text of the outcome of the line with this number, or `None` where memory runs out for it.
 fn kept_text(alloc: Global, number: u64, line: &LineOutcome) -> Option<Vec<u8>>
     requires { CanBeWritten line.now }
     ensures { IfSome result (λ text. text.items ≡ line_text number line.now) }

@@ -26,7 +26,7 @@ const LINES_EACH: usize = 2;
 pub const LONG_ANSWER: u64 = 2048;
 
 /// Puts the texts of the outcomes of lines behind the bytes that wait. Long ones are made side by side, by as many threads as there are workers,
-/// at most `LINES_EACH` a thread at a time; these are held in memory until they are put. Where memory is wanting for one, or there is one
+/// at most `LINES_EACH` a thread at a time; these are held in memory until they are put. Where memory runs out for one, or there is one
 /// worker, a text goes out piece by piece and takes no memory.
 pub(crate) fn put_outcomes<W: Threads + Sync, P: Put>(
     rt: &W,
@@ -89,7 +89,7 @@ fn any_long(outcomes: &[LineOutcome]) -> bool
     outcomes.iter().any(|line| is_long(&line.outcome))
 }
 
-/// Places for the texts of so many lines, fewer where memory is wanting.
+/// Places for the texts of so many lines, fewer where memory runs out.
 fn places(alloc: Global, count: usize) -> Vec<MadeText>
     ensures { vec_len result ≤ count }
 {
@@ -103,7 +103,7 @@ fn places(alloc: Global, count: usize) -> Vec<MadeText>
 }
 
 /// The texts of the outcomes of lines, of which the first has this number, made by so many threads, or none where that isn't worth threads.
-/// Where memory is wanting for a text it isn't made.
+/// Where memory runs out for a text it isn't made.
 fn texts_of<W: Threads + Sync>(
     rt: &W,
     alloc: Global,

@@ -1,16 +1,15 @@
-//! What is told of a certificate: that it fixes its answer, a table that beats it, or why it is refused.
+//! What is told of a certificate: that it fixes its answer, a counterexample, or why it is refused.
 //!
 //! A certificate that says within which factor of the best its answer is is judged within that.
 //!
 //! ```text
 //! fixes
-//! beaten inside OBJECT low LOW outside OBJECT high HIGH     then a bundle: the table that beats, and the query
+//! beaten inside OBJECT low LOW outside OBJECT high HIGH     then a bundle: the counterexample, and the query
 //! refused NAME FIELDS                                       one line
 //! ```
 //!
-//! Whether a transcript fixes an answer, or how near it is to the best, on every table that agrees with it.
-//!
-//! Where it doesn't fix it, there is a table on which the answer is beaten: an object of the answer has its low there, and every other object its high.
+//! A transcript fixes an answer where this is right on every table that agrees with it. Where it doesn't there is a table on which the answer is
+//! beaten: an object of the answer has its low there, and every other object its high.
 #![tactic(auto)]
 
 mod beating;

@@ -4,11 +4,11 @@ use super::factor::Guarantee;
 use super::versions::Versions;
 use access_log::Items;
 use query_text::Query;
-use topk_base::Listed;
+use topk_base::Seq32;
 use topk_theory::Access;
 
 /// Accesses in order.
-pub type Accesses = Listed<Access>;
+pub type Accesses = Seq32<Access>;
 
 /// An answer to a query, with the accesses that it was found by.
 #[derive(Drop)]

@@ -15,7 +15,7 @@
 //!
 //! A refused query line is one line: `refused LINE`, the name of the refusal and its fields.
 //!
-//! Within which factor of the best an answer is, by its query's algorithm.
+//! Within which factor of the best an answer is (`guarantee`) goes by its query's algorithm.
 //!
 //! It is the factor that is asked for, or what the transcript of an early stop shows. Whoever writes a certificate and whoever judges one reckon it
 //! from the same.

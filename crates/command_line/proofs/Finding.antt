@@ -45,6 +45,6 @@ pub refuses : {Z : Type 0} (app plain : App) (words : List (List ℕ)) (strings 
 refuses app plain words strings e is same refused other =
     subst (Refuses plain) same (subst (λ a. Refuses a (map string_bytes strings)) is (refuses_here app strings e refused other))
 
--- a want of memory is no refusal
+-- a lack of memory is no refusal
 pub memory_apart : {A P : Type 0} (result : Result A WordsFault) → result ≡ Err Memory → result ≡ Err BadWords → P
 memory_apart result is e = absurd cc

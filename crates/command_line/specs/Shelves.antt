@@ -36,7 +36,7 @@ pub record TextFailed (place : List ℕ) (before now : Shelf) : Type 0 where
   pub asked : AsksText place before now
   pub rose : Rose (before.at place).text_faults (now.at place).text_faults
 
--- it gave none for want of memory, which counts nothing
+-- it gave none for lack of memory, which counts nothing
 pub record TextRefused (place : List ℕ) (before now : Shelf) : Type 0 where
   pub asked : AsksText place before now
   pub same : now.at place ≡ before.at place

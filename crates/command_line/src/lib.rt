@@ -1,12 +1,10 @@
-//! The command that words are, and what the words of a line give a command.
+//! The words of a command line, the command that they are, and how a call ends.
 //!
 //! The first word is the command's name, and what may follow it is the command's own: places and options, each with a
 //! value. The word `--` ends the options and stands for nothing itself. There is no help option.
 //!
-//! Calls of the program, and how they end.
-//!
 //! A call has words, and stands between an input, an output and a shelf as they are before it and as they are after it. How it ends is
-//! its status, which is the program's exit status: each status says what was read and what was written, and which count of faults rose.
+//! its `Status`, the program's exit status: each says what was read and what was written, and which count of faults rose.
 #![tactic(auto)]
 
 mod arguments;

@@ -1,9 +1,9 @@
-//! Objects by their numbers: `ObjectMap` finds the value of an object, and `RoomMap` the place at which a key was added.
+//! Objects by their numbers and ranks by key, with room that is taken once.
 //!
-//! Small numbers stand in a table by the number itself, the others are found by their hash. The room of a `RoomMap` is taken
-//! once: from then on no key that is added takes memory.
+//! `ObjectMap` finds the value of an object, and `RoomMap` the place at which a key was added. Small numbers stand in a table
+//! by the number itself, the others are found by their hash. From `make` on no key that is added to a `RoomMap` takes memory.
 //!
-//! Ranks by key: an `IndexedHeap` has the greatest rank at hand, and `RankedSlots` the least of those in its slots.
+//! An `IndexedHeap` has the greatest rank at hand, and `RankedSlots` the least of those in its slots.
 //!
 //! The keys of a heap are the numbers below a room that is taken once: from then on no change takes memory, and each costs at
 //! most the logarithm of the number of keys that have a rank. Slots can also be gone through, and the slot of a key is found

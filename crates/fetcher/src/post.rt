@@ -5,7 +5,7 @@ ghost use Rattle.fetcher.specs.Serving.{IsServed};
 use super::fetch::{counted, fetch_turn};
 use super::slot::Slot;
 use super::turned::{Fetched, Turned};
-use keyed_lock::Kept;
+use keyed_lock::LockInvariant;
 use source_api::Source;
 use source_pool::Pool;
 use std::alloc::Global;
@@ -25,7 +25,7 @@ pub struct Began<S: Source> {
     pub slots: Snapshot<Vec<Slot<S>>>,
 }
 
-impl<S: Source> Kept for Slot<S> {
+impl<S: Source> LockInvariant for Slot<S> {
     ghost use Rattle.fetcher.specs.Serving.{IsServedFrom};
 
     type Key = Began<S>;

@@ -129,7 +129,7 @@ pub fn serve_loop<S: Source>(
 }
 
 impl<S: Source> Posts<S> {
-    /// Posts for slots at which no turn was taken yet, with the pass that has all parts. Where memory is wanted the slots stay.
+    /// Posts for slots at which no turn was taken yet, with the pass that has all parts. Where memory runs out the slots stay.
     pub fn open(
         alloc: Global,
         pool: &Pool,

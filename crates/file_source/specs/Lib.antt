@@ -3,6 +3,6 @@ pub mod FileAnswers
 pub mod FileLists
 pub mod Filed
 pub mod ListFile
-pub mod Reading
+pub mod Shelved
 pub mod Taking
 pub mod Unread

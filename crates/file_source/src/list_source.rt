@@ -13,7 +13,7 @@ use std::marker::Model;
 /// A list file, whose records are read at its first call.
 ///
 /// Contracts see it as its records and what it has counted, as a `FileSource`, whether they were read by then or not. It answers as
-/// that one does, but that the first call may want memory. So the cost of reading is that of a call on it, which may go on beside others.
+/// that one does, but that the first call may run out of memory. So the cost of reading is that of a call on it, which may go on beside others.
 #[derive(Drop)]
 pub struct ListSource {
     form: Form,

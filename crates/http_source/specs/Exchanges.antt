@@ -67,7 +67,7 @@ abbrev pub FailsWith : {T : Type 0} → ℕ → ℕ → Result T Trouble → Typ
 FailsWith before now (Err (Fail Failed)) = Rose before now
 FailsWith before now _ = now ≡ before
 
--- a call that fails, or wants memory
+-- a call that fails, or runs out of memory
 abbrev pub IsUnanswered : {T : Type 0} → Result T Trouble → Type 0
 IsUnanswered (Err (Fail Failed)) = ⊤
 IsUnanswered (Err (Fail Memory)) = ⊤

@@ -3,12 +3,12 @@
 ghost use Rattle.std.specs.Prelude.{◌≡◌, ◌≤◌, ◌<◌, ◌-◌, ◌+◌, [], All, map, vec_len, vec_capacity};
 ghost use Rattle.keyed_lock.specs.Hold.{share_of};
 
-use crate::kept::Kept;
 use crate::lock::KeyedLock;
+use crate::lock_invariant::LockInvariant;
 use crate::pass::Pass;
 
 /// Who works, with a pass of its own.
-pub struct Hand<W, V: Kept> {
+pub struct Hand<W, V: LockInvariant> {
     /// Who works.
     pub worker: W,
     /// Its pass.
@@ -16,7 +16,7 @@ pub struct Hand<W, V: Kept> {
 }
 
 /// Written here, and not derived, so that a crate that lets a hand go calls this.
-impl<W: Drop, V: Kept> Drop for Hand<W, V> {
+impl<W: Drop, V: LockInvariant> Drop for Hand<W, V> {
     fn drop(self) {
         let Hand {
             worker: _worker,
@@ -25,7 +25,7 @@ impl<W: Drop, V: Kept> Drop for Hand<W, V> {
     }
 }
 
-impl<V: Kept + Send + Drop> KeyedLock<V> {
+impl<V: LockInvariant + Send + Drop> KeyedLock<V> {
     /// Gives each worker a pass of one part, split off this one, in a vector with room for all. Takes no memory.
     pub fn hand_out<W: Drop>(
         &self,
@@ -100,7 +100,7 @@ impl<V: Kept + Send + Drop> KeyedLock<V> {
     }
 }
 
-impl<W, V: Kept> Hand<W, V> {
+impl<W, V: LockInvariant> Hand<W, V> {
     /// Who works, and its pass.
     fn into_parts(self) -> (W, Pass<V>)
         ensures { result ≡ (self.worker, self.pass) }

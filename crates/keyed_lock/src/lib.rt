@@ -4,9 +4,9 @@
 mod filling;
 mod hands;
 mod hold;
-mod kept;
 mod laws;
 mod lock;
+mod lock_invariant;
 mod pass;
 mod rule;
 mod seat;
@@ -14,7 +14,7 @@ mod view;
 
 pub use hands::Hand;
 pub use hold::Hold;
-pub use kept::Kept;
 pub use laws::parts_add_up;
 pub use lock::KeyedLock;
+pub use lock_invariant::LockInvariant;
 pub use pass::Pass;

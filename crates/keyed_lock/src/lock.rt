@@ -4,7 +4,7 @@ ghost use Rattle.keyed_lock.specs.Rule.{HoldsAll};
 ghost use Rattle.keyed_lock.specs.Hold.{all_parts, IsPassOf, KeepAll, opened, holding, with_parts, joined};
 
 use crate::filling::{empty, fill};
-use crate::kept::Kept;
+use crate::lock_invariant::LockInvariant;
 use crate::pass::Pass;
 use crate::rule::Keyed;
 use crate::seat;
@@ -25,13 +25,13 @@ const LOOKS: u32 = 100;
 ///
 /// Whenever a value is home it keeps its fact with the key and the place. Nothing is said of who has it next.
 #[derive(Drop)]
-pub struct KeyedLock<V: Kept + Drop> {
+pub struct KeyedLock<V: LockInvariant + Drop> {
     table: Table<Option<V>, View<V::Key>, V::Key, Keyed, Global>,
     /// Who gives a value back rings the bell of its place, and who waits for it sleeps there.
     bells: Vec<Bell>,
 }
 
-impl<V: Kept + Drop> Model for KeyedLock<V> {
+impl<V: LockInvariant + Drop> Model for KeyedLock<V> {
     ghost use Rattle.std.specs.Prelude.{◌≡◌, ◌+◌, vec_len};
     ghost use Rattle.keyed_lock.specs.Hold.{Lock};
 
@@ -76,7 +76,7 @@ fn take_out<V>(mut closed: Closed<Option<V>, Global>, room: &mut Vec<V>)
     closed.free();
 }
 
-impl<V: Kept + Send + Drop> KeyedLock<V> {
+impl<V: LockInvariant + Send + Drop> KeyedLock<V> {
     /// A lock of the values, in their order, with the pass that has all 2^40 parts. The vector keeps its room. Without memory the values stay
     /// in it.
     pub fn open(

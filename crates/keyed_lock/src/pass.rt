@@ -1,4 +1,4 @@
-use crate::kept::Kept;
+use crate::lock_invariant::LockInvariant;
 use crate::seat::Place;
 use std::marker::Model;
 
@@ -7,11 +7,11 @@ use std::marker::Model;
 /// It has no bytes. A pass that is dropped takes its parts with it, and where it has a value also that: the lock
 /// then gives this value to nobody any more.
 #[derive(Drop)]
-pub struct Pass<V: Kept> {
+pub struct Pass<V: LockInvariant> {
     pub(crate) seat: Place<V>,
 }
 
-impl<V: Kept> Model for Pass<V> {
+impl<V: LockInvariant> Model for Pass<V> {
     ghost use Rattle.atomic_table.specs.Seated.{TableId};
     ghost use Rattle.keyed_lock.specs.declared.hold.Hold.{Hold};
     ghost use Rattle.keyed_lock.specs.Seats.{Poised};

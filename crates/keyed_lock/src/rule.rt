@@ -1,11 +1,11 @@
 // The rule of a lock's table, and its steps. `specs/Rule.antt` and `specs/Steps.antt` say what they mean.
-use crate::kept::Kept;
+use crate::lock_invariant::LockInvariant;
 use crate::view::View;
 use atomic_table::{Join, Play, Split, TableRule};
 
 pub struct Keyed;
 
-impl<V: Kept> TableRule<Option<V>, View<V::Key>, V::Key> for Keyed {
+impl<V: LockInvariant> TableRule<Option<V>, View<V::Key>, V::Key> for Keyed {
     ghost use Rattle.keyed_lock.specs.Rule.{Ruled, first_view};
 
     ghost holds = { λ key s. Ruled V.keeps key s };
@@ -16,7 +16,7 @@ impl<V: Kept> TableRule<Option<V>, View<V::Key>, V::Key> for Keyed {
 // The value is taken, where no pass has it.
 pub struct Grab;
 
-impl<V: Kept> Play<Option<V>, View<V::Key>> for Grab {
+impl<V: LockInvariant> Play<Option<V>, View<V::Key>> for Grab {
     ghost use Rattle.keyed_lock.specs.Steps.{Grabs};
 
     ghost then = { λ st m n m'. Grabs V.keeps st m n m' };
@@ -25,7 +25,7 @@ impl<V: Kept> Play<Option<V>, View<V::Key>> for Grab {
 // The value is home again.
 pub struct Release;
 
-impl<V: Kept> Play<Option<V>, View<V::Key>> for Release {
+impl<V: LockInvariant> Play<Option<V>, View<V::Key>> for Release {
     ghost use Rattle.keyed_lock.specs.Steps.{Releases};
 
     ghost then = { λ st m n m'. Releases st m n m' };
@@ -34,7 +34,7 @@ impl<V: Kept> Play<Option<V>, View<V::Key>> for Release {
 // The pass notes how many parts it gives away.
 pub struct Offer;
 
-impl<V: Kept> Play<Option<V>, View<V::Key>> for Offer {
+impl<V: LockInvariant> Play<Option<V>, View<V::Key>> for Offer {
     ghost use Rattle.keyed_lock.specs.Steps.{Offers};
 
     ghost then = { λ st m n m'. Offers st m n m' };

@@ -3,7 +3,7 @@ ghost use Rattle.std.specs.Prelude.{◌≡◌, ◌-◌, ◌<◌, Some, None, IfS
 ghost use Rattle.keyed_lock.specs.Hold.{holding, with_parts, joined, KeepsFact};
 ghost use Rattle.keyed_lock.specs.Seats.{IsSeatOf, IsSameSeat, Poised};
 
-use crate::kept::Kept;
+use crate::lock_invariant::LockInvariant;
 use crate::rule::{Cut, Glue, Grab, Keyed, Offer, Release};
 use crate::view::View;
 use atomic_table::{Seat, Shared};
@@ -11,12 +11,17 @@ use atomic_table::{Seat, Shared};
 /// The word on which parts are offered: what is found there doesn't matter.
 const ANY: usize = 0;
 
-pub type Desk<V> = Shared<Option<V>, View<<V as Kept>::Key>, <V as Kept>::Key, Keyed>;
+pub type Desk<V> = Shared<
+    Option<V>,
+    View<<V as LockInvariant>::Key>,
+    <V as LockInvariant>::Key,
+    Keyed,
+>;
 
-pub type Place<V> = Seat<Option<V>, View<<V as Kept>::Key>>;
+pub type Place<V> = Seat<Option<V>, View<<V as LockInvariant>::Key>>;
 
 // Takes the value at a place out, where no pass has it.
-pub fn grab<V: Kept + Drop>(desk: &Desk<V>, seat: &mut Place<V>, place: usize) -> Option<V>
+pub fn grab<V: LockInvariant + Drop>(desk: &Desk<V>, seat: &mut Place<V>, place: usize) -> Option<V>
     requires desk { IsSeatOf desk.now.table_id seat.old.table_id }
     requires place { place < desk.now.table_id.slots }
     requires poised { Poised seat.old.me }
@@ -34,7 +39,7 @@ pub fn grab<V: Kept + Drop>(desk: &Desk<V>, seat: &mut Place<V>, place: usize) -
 }
 
 // Puts a value into the slot that is out, and the slot home.
-pub fn put<V: Kept + Drop>(desk: &Desk<V>, seat: &mut Place<V>, place: usize, value: V)
+pub fn put<V: LockInvariant + Drop>(desk: &Desk<V>, seat: &mut Place<V>, place: usize, value: V)
     requires desk { IsSeatOf desk.now.table_id seat.old.table_id }
     requires place { place < desk.now.table_id.slots }
     requires poised { Poised seat.old.me }
@@ -49,7 +54,7 @@ pub fn put<V: Kept + Drop>(desk: &Desk<V>, seat: &mut Place<V>, place: usize, va
 }
 
 // Splits a seat off, with so many parts.
-pub fn cut<V: Kept>(desk: &Desk<V>, seat: &mut Place<V>, parts: u64) -> Place<V>
+pub fn cut<V: LockInvariant>(desk: &Desk<V>, seat: &mut Place<V>, parts: u64) -> Place<V>
     requires desk { IsSeatOf desk.now.table_id seat.old.table_id }
     requires poised { Poised seat.old.me }
     requires rests { seat.old.me.0.hold.held ≡ None }
@@ -63,7 +68,7 @@ pub fn cut<V: Kept>(desk: &Desk<V>, seat: &mut Place<V>, parts: u64) -> Place<V>
 }
 
 // Takes in the parts of another seat.
-pub fn glue<V: Kept>(desk: &Desk<V>, seat: &mut Place<V>, other: Place<V>)
+pub fn glue<V: LockInvariant>(desk: &Desk<V>, seat: &mut Place<V>, other: Place<V>)
     requires desk { IsSeatOf desk.now.table_id seat.old.table_id × (other.table_id ≡ seat.old.table_id) }
     requires poised { Poised seat.old.me × Poised other.me }
     requires rests { (seat.old.me.0.hold.held ≡ None) × (other.me.0.hold.held ≡ None) }

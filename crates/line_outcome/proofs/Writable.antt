@@ -20,7 +20,7 @@ use Rattle.query_admission.proofs.Becoming.{answered_writable, refused_writable}
 use Rattle.query_run.specs.declared.ended.Ended.{Ended}
 use Rattle.query_run.specs.declared.ended.Ended.TheVariants as ended
 use Rattle.query_run.specs.declared.ended.Refusal.TheVariants as refusal
-use Rattle.query_run.specs.declared.inquiry.Inquiry.{Inquiry}
+use Rattle.query_run.specs.declared.running_query.RunningQuery.{RunningQuery}
 use Rattle.query_run.specs.Causes.{IsCause, IsOfList}
 use Rattle.query_run.specs.Endings.{EndsAs, IsRight}
 use Rattle.query_run.specs.Kept.{IsServed}
@@ -64,7 +64,7 @@ of_list_is list (need.Row other depth) h = h
 of_list_is list (need.Grade other object) h = h
 of_list_is list need.Done h = absurd h
 
-pub ended_written : (states : List State) (ready : Ready) (q : Inquiry) (e : Ended) (o : Outcome) → IsServed states q → IsOf ready q → EndsAs q e
+pub ended_written : (states : List State) (ready : Ready) (q : RunningQuery) (e : Ended) (o : Outcome) → IsServed states q → IsOf ready q → EndsAs q e
     → IsRight ready e → ended_outcome e ≡ Some o → IsOutcome (Some ready.query) ready.versions.items o
 ended_written states ready q (ended.Answered answer) o served of ends right e = subst (IsOutcome (Some ready.query) ready.versions.items) (same_Some (Answered answer) o e) (answered_writable ready answer of.is right)
 ended_written states ready q (ended.Core (core.Strangers object count)) o served of ends right e =

@@ -29,7 +29,7 @@ source_refusal list (fault.Above object grade bottom) = refusal.Above list objec
 source_refusal list (fault.ShortList stated got) = refusal.ShortList list stated got
 source_refusal list (fault.Moved had now) = refusal.Moved list had now
 
--- the refusal of a query that needs of a list what can't be had; none for want of memory
+-- the refusal of a query that needs of a list what can't be had; none for lack of memory
 abbrev pub look_refusal : ℕ → LookFault → Option Refusal
 look_refusal list (look.Source fault) = Some (source_refusal list fault)
 look_refusal list (look.Missing object) = Some (refusal.Missing list object)
@@ -38,7 +38,7 @@ look_refusal list (look.Call kind.Failed) = Some (refusal.Failed list)
 look_refusal list (look.Call kind.Garbled) = Some (refusal.Garbled list)
 look_refusal list (look.Call kind.Memory) = None
 
--- the outcome of a query that ended so; none for want of memory
+-- the outcome of a query that ended so; none for lack of memory
 abbrev pub ended_outcome : Ended → Option Outcome
 ended_outcome (ended.Answered answer) = Some (Answered answer)
 ended_outcome (ended.Core fault) = Some (Refused (core_refusal fault))

@@ -24,7 +24,7 @@ pub fn line_refused(alloc: Global, refusal: Refusal, query: Option<Query>) -> Li
     }
 }
 
-/// The outcome of a line whose query was ready and ended so, or a want of memory where it ended for that. Takes no memory.
+/// The outcome of a line whose query was ready and ended so, or a lack of memory where it ended for that. Takes no memory.
 pub fn line_ended(ready: Ready, ended: Ended) -> Result<LineOutcome, Memory>
     ensures { IfOk result (IsEndedAs ready ended) }
 {

@@ -65,7 +65,7 @@ fn source_refusal(list: u8, fault: SourceFault) -> Refusal
     }
 }
 
-/// The refusal of a query that needs of this list what can't be had, or None for want of memory.
+/// The refusal of a query that needs of this list what can't be had, or None for lack of memory.
 fn look_refusal(list: u8, fault: LookFault) -> Option<Refusal>
     ensures { result ≡ look_refusal list fault }
 {
@@ -79,7 +79,7 @@ fn look_refusal(list: u8, fault: LookFault) -> Option<Refusal>
     }
 }
 
-/// The outcome of a query that ended so, or None for want of memory.
+/// The outcome of a query that ended so, or None for lack of memory.
 pub(crate) fn ended_outcome(ended: Ended) -> Option<Outcome>
     ensures { result ≡ ended_outcome ended }
 {

@@ -1,9 +1,9 @@
-//! What the machines of all algorithms share: their query and transcript.
+//! What the machines of all algorithms share: their query, their transcript, and the first k of what they have seen.
 //!
 //! What contracts see of a machine stands in `specs/Machine.antt`. The test of room at a row, why a query is refused there, which unknown grade of
 //! objects is asked next (`ask_from`) and what a query ends with are the same for all.
 //!
-//! The first k of the objects seen so far, by low, high and id, kept as they come.
+//! A `Board` keeps the first k of the objects seen so far, by low, high and number, as they come.
 #![tactic(auto)]
 
 mod answer;

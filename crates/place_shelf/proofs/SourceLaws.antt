@@ -9,7 +9,7 @@ use Rattle.source_api.specs.Counting.{no_counts}
 use Rattle.file_source.specs.FileLists.{told_list}
 use Rattle.file_source.specs.Filed.{Filed}
 use Rattle.file_source.specs.ListFile.{list_records, told_records}
-use Rattle.file_source.specs.Reading.{told_rows}
+use Rattle.file_source.specs.Shelved.{told_rows}
 use Rattle.http_source.specs.Served.{counts_with}
 use Rattle.catalog_text.proofs.AddressLaws.{address_is_remote}
 use Rattle.place_shelf.specs.declared.place_source.PlaceSource.{PlaceSource}

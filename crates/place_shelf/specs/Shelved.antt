@@ -3,7 +3,7 @@ use Rattle.std.specs.Prelude.{ℕ, List, Option, Some, None, refl, if◌then◌e
 use Rattle.std.specs.Coded.{Coded, code_by, coded×}
 use Rattle.ranked_list.specs.declared.row.Row.{Row}
 use Rattle.source_api.specs.Places.{Noted}
-use Rattle.file_source.specs.Reading.{rows_at}
+use Rattle.file_source.specs.Shelved.{rows_at}
 use Rattle.catalog_text.specs.Places.{is_remote}
 
 -- the files, what makes dials, and what is counted by place

@@ -1,7 +1,6 @@
 //! The shelf of a process: its files, and the lists that hosts serve, each as a source of its own.
 #![tactic(auto)]
 
-mod counting;
 mod dial_maker;
 mod opening;
 mod place_shelf;

@@ -2,7 +2,7 @@
 
 ghost use Rattle.std.specs.Prelude.{◌≡◌, false, Some, string_bytes, IfErr, IfOk, IfSome};
 ghost use Rattle.source_api.specs.Counting.{no_counts};
-ghost use Rattle.file_source.specs.Reading.{IsFileTrouble};
+ghost use Rattle.file_source.specs.Shelved.{IsFileTrouble};
 ghost use Rattle.place_shelf.specs.Shelved.{list_at, version_at};
 ghost use Rattle.place_shelf.specs.Sources.{IsSourceOf, IsOverFile, IsOverDial, list_of, counts_of, version_of, states_of};
 ghost use Rattle.catalog_text.specs.Places.{is_remote};

@@ -9,11 +9,10 @@ ghost use Rattle.source_api.specs.Places.{IsTaking, SameAtEach, SameElsewhere, C
 ghost use Rattle.place_shelf.specs.Shelved.{list_at, version_at};
 ghost use Rattle.place_shelf.specs.Sources.{IsSourceOf, list_of, counts_of, version_of, states_of};
 
-use super::counting::{count_take, count_text};
 use super::dial_maker::DialMaker;
 use super::opening::open_told;
 use super::place_source::PlaceSource;
-use file_source::{FileTree, read_file};
+use file_source::{FileTree, count_take, count_text, read_file};
 use source_api::{FailKind, Ledger, Shelf, Trouble};
 use std::alloc::Global;
 use std::marker::Model;

@@ -42,7 +42,7 @@ pub record TakeFailed (place : List ℕ) (before now : Shelf) : Type 0 where
   pub none : TakesNone place before now
   pub rose : Rose (before.at place).take_faults (now.at place).take_faults
 
--- it gave none for want of memory, which counts nothing
+-- it gave none for lack of memory, which counts nothing
 pub record TakeRefused (place : List ℕ) (before now : Shelf) : Type 0 where
   pub none : TakesNone place before now
   pub same : now.at place ≡ before.at place

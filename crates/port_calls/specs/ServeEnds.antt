@@ -32,7 +32,7 @@ abbrev pub ListensFor : Listening → Ports → Served → Type 0
 ListensFor l p served = AsksForLinks l.conns (listening l.at p.before).calls p.after.calls served
 
 -- so many links of a port, which listens at the stated number, were taken to be served, as many as are asked for or as come; or the port failed; how many
--- were taken before memory was wanted is free
+-- were taken before memory ran out is free
 abbrev pub ServesPort : Listening → Ports → Served → Type 0
 ServesPort l p (Ended count) = TookAll l.conns p.before.links p.after.links p.before.faults p.after.faults count × ListensFor l p (Ended count)
 ServesPort l p AtFault =
@@ -47,7 +47,7 @@ pub record ServesThem (l : Listening) (catalog : List Entry) (before now : Shelf
   pub serves : ServesPort l p served
   pub closed : p.after.closed ≡ p.before.closed
 
--- the same; where memory was wanted some sources may not have been taken, and the port may have been left as it was
+-- the same; where memory ran out some sources may not have been taken, and the port may have been left as it was
 abbrev pub EndsLists : Listening → List Entry → Shelf → Shelf → Ports → Served → Type 0
 EndsLists l catalog before now p (Ended count) = ServesThem l catalog before now p (Ended count)
 EndsLists l catalog before now p AtFault = ServesThem l catalog before now p AtFault
@@ -88,7 +88,7 @@ EndsServe o c p OpenFault = TextFailed o.catalog c.before.shelf c.after.shelf ×
 EndsServe o c p Memory = (TextRefused o.catalog c.before.shelf c.after.shelf × KeepsPort p × WroteNothing c) ⊎ ServeEndsOn o c p Memory
 EndsServe o c p status = ServeEndsOn o c p status
 
--- what is said of links that were served: how many they are, or nothing where the port failed or memory was wanted
+-- what is said of links that were served: how many they are, or nothing where the port failed or memory ran out
 abbrev pub SaysServeEnded : Output → Output → Served → Status → Type 0
 SaysServeEnded before now (Ended count) end = Says before now (served_text count) Done end
 SaysServeEnded before now AtFault end = (end ≡ PortFault) × Keeps before.held now.held × (now.faults ≡ before.faults)

@@ -64,7 +64,7 @@ pub fn serve<W: Threads + Wait + Sync, H: Shelf, K: Sink, P: Port>(
     }
 }
 
-/// Ends as serving did: how many links were taken is written, or nothing where the port failed or memory was wanted.
+/// Ends as serving did: how many links were taken is written, or nothing where the port failed or memory ran out.
 fn end_served<K: Sink>(out: &mut K, served: Served) -> Status
     ensures counts { K.faults out.old ≤ K.faults out.new }
     ensures says { SaysServeEnded (output_as K.held K.faults out.old) (output_as K.held K.faults out.new) served result }

@@ -26,7 +26,7 @@ use Rattle.query_admission.specs.Admission.{RefusesLine, IsAdmitted, Admits}
 use Rattle.query_admission.specs.Screening.{list_causes, Screens, FitsOver, Weighs, admitted_as}
 use Rattle.query_admission.specs.declared.admission.Weighed.{Weighed}
 use Rattle.query_admission.specs.declared.admission.Weighed.TheVariants.{Ready as Fits, Refused as NotReady}
-use Rattle.query_admission.specs.declared.lists.Listed.{Listed}
+use Rattle.query_admission.specs.declared.lists.ListInfo.{ListInfo}
 use Rattle.query_admission.proofs.Positions.{nothing, found_within, found_passes, small_size, size_there}
 
 -- a line is read as one query, and where it's read as one it has no fault
@@ -46,7 +46,7 @@ read_faultless bytes q fault refusal is_q e bad =
     ]
 
 -- the lists of a query are known one way
-pub lists_once : (xs ys : List Listed) → map Some xs ≡ map Some ys → xs ≡ ys
+pub lists_once : (xs ys : List ListInfo) → map Some xs ≡ map Some ys → xs ≡ ys
 lists_once [] [] e = refl
 lists_once [] (y ∷ ys) e = absurd cc
 lists_once (x ∷ xs) [] e = absurd cc
@@ -55,16 +55,16 @@ lists_once (x ∷ xs) (y ∷ ys) e =
     let rest : map Some xs ≡ map Some ys = cc in
     ap (λ z. z ∷ xs) here ∙ ap (λ zs. y ∷ zs) (lists_once xs ys rest)
 
-pub listed_many : (view : View) (q : Query) (lists : List Listed) → AreListed view q lists → length q.names ≡ length lists
+pub listed_many : (view : View) (q : Query) (lists : List ListInfo) → AreListed view q lists → length q.names ≡ length lists
 listed_many view q lists listed = sym (length-map q.names view.listed) ∙ ap length listed ∙ length-map lists Some
 
 -- the query of a line and its lists
-pub record IsHere (x : QueryLine) (q : Query) (lists : List Listed) : Type 0 where
+pub record IsHere (x : QueryLine) (q : Query) (lists : List ListInfo) : Type 0 where
   pub few : x.number ≤ most_queries
   pub reads : Reads x.bytes (Ok q)
   pub listed : AreListed x.view q lists
 
-over_here : (x : QueryLine) (q : Query) (lists : List Listed) (P : Query → List Listed → Type 0) → IsHere x q lists → Over x P → P q lists
+over_here : (x : QueryLine) (q : Query) (lists : List ListInfo) (P : Query → List ListInfo → Type 0) → IsHere x q lists → Over x P → P q lists
 over_here x q lists P here over =
     let same : over.query ≡ q = read_once x.bytes over.query q over.reads here.reads in
     let listed : map Some over.lists ≡ map Some lists = sym over.listed ∙ ap (λ p. map x.view.listed p.names) same ∙ here.listed in
@@ -83,7 +83,7 @@ IsOfLists cause = ⊥
 of_lists : (cause : Cause) → Contains list_causes cause → IsOfLists cause
 of_lists cause h = member_of_all IsOfLists list_causes cause (All-from_recursion IsOfLists list_causes (tt, (tt, (tt, (tt, (tt, (tt, tt))))))) h
 
-gives_here : (x : QueryLine) (q : Query) (lists : List Listed) (cause : Cause) (refusal : Refusal) → IsHere x q lists → ListsGive q lists cause refusal
+gives_here : (x : QueryLine) (q : Query) (lists : List ListInfo) (cause : Cause) (refusal : Refusal) → IsHere x q lists → ListsGive q lists cause refusal
     → RefusesFor x cause refusal
 gives_here x q lists Cause.many_queries refusal here h = absurd h
 gives_here x q lists Cause.text refusal here h = absurd h
@@ -96,7 +96,7 @@ gives_here x q lists Cause.k_above_count refusal here h = record { query = q; li
 gives_here x q lists Cause.no_random refusal here h = record { query = q; lists = lists; reads = here.reads; listed = here.listed; holds = h }
 gives_here x q lists Cause.no_sorted refusal here h = record { query = q; lists = lists; reads = here.reads; listed = here.listed; holds = h }
 
-gives_back : (x : QueryLine) (q : Query) (lists : List Listed) (cause : Cause) (refusal : Refusal) → IsHere x q lists → IsOfLists cause → RefusesFor x cause refusal
+gives_back : (x : QueryLine) (q : Query) (lists : List ListInfo) (cause : Cause) (refusal : Refusal) → IsHere x q lists → IsOfLists cause → RefusesFor x cause refusal
     → ListsGive q lists cause refusal
 gives_back x q lists Cause.many_queries refusal here of h = absurd of
 gives_back x q lists Cause.text refusal here of h = absurd of
@@ -119,19 +119,19 @@ not_many x few = λ refusal h. absurd (omega (arith, h.1))
 not_text : (x : QueryLine) (q : Query) → Reads x.bytes (Ok q) → Never x Cause.text
 not_text x q reads = λ refusal h. read_faultless x.bytes q h.0 refusal reads h.1 h.2
 
-known_somewhere : (lists : List Listed) (place : ℕ) → place < length (map Some lists) → is_none (slice_index_or (map Some lists) place None) ≡ false
+known_somewhere : (lists : List ListInfo) (place : ℕ) → place < length (map Some lists) → is_none (slice_index_or (map Some lists) place None) ≡ false
 known_somewhere [] place l = absurd (omega arith)
 known_somewhere (list ∷ lists) zero l = refl
 known_somewhere (list ∷ lists) (suc place) l = known_somewhere lists place (omega arith)
 
-none_unknown : (lists : List Listed) (place : ℕ) → position is_none (map Some lists) ≡ Some place → ⊥
+none_unknown : (lists : List ListInfo) (place : ℕ) → position is_none (map Some lists) ≡ Some place → ⊥
 none_unknown lists place e =
     let found = position-Some is_none (map Some lists) place None e in
     let known = known_somewhere lists place found.0 in
     let here : is_none (slice_index_or (map Some lists) place None) ≡ true = found.1 in
     absurd cc
 
-not_unknown : (x : QueryLine) (q : Query) (lists : List Listed) → IsHere x q lists → Never x Cause.unknown_list
+not_unknown : (x : QueryLine) (q : Query) (lists : List ListInfo) → IsHere x q lists → Never x Cause.unknown_list
 not_unknown x q lists here = λ refusal h.
     let same : h.query ≡ q = read_once x.bytes h.query q h.reads here.reads in
     none_unknown lists h.holds.0 (subst (λ ks. position is_none ks ≡ Some h.holds.0) (ap (λ p. map x.view.listed p.names) same ∙ here.listed) h.holds.2)
@@ -140,7 +140,7 @@ all_cons : (P : Cause → Type 0) (cause : Cause) (causes : List Cause) → P ca
 all_cons P cause causes here rest =
     all_from_members P (cause ∷ causes) (λ other h. elim (contains_cases cause causes other h) [ inl same ↦ subst P same here | inr later ↦ member_of_all P causes other rest later ])
 
-none_before : (x : QueryLine) (q : Query) (lists : List Listed) (earlier : List Cause) → IsHere x q lists
+none_before : (x : QueryLine) (q : Query) (lists : List ListInfo) (earlier : List Cause) → IsHere x q lists
     → ((cause : Cause) → Contains earlier cause → IsOfLists cause) → NoneOf (ListsGive q lists) earlier
     → NoneOf (RefusesFor x) (Cause.many_queries ∷ Cause.text ∷ Cause.unknown_list ∷ earlier)
 none_before x q lists earlier here of none =
@@ -236,7 +236,7 @@ refused_unknown x q refusal list few reads is unknown =
     }
 
 -- a cause that lies in the lists
-pub refused_lists_why : (x : QueryLine) (q : Query) (lists : List Listed) (refusal : Refusal) → IsHere x q lists → Screens q lists (Err refusal)
+pub refused_lists_why : (x : QueryLine) (q : Query) (lists : List ListInfo) (refusal : Refusal) → IsHere x q lists → Screens q lists (Err refusal)
     → RefusesLine admission_causes x refusal (Some q)
 refused_lists_why x q lists refusal here why =
     let f = why.0 in
@@ -255,19 +255,19 @@ refused_lists_why x q lists refusal here why =
     }
 
 -- an algorithm that isn't refused for it has what it reads
-sorted_there : (lists : List Listed) (place : ℕ) (d : Listed) → place < length lists → offers_sorted (slice_index_or lists place d) ≡ true
+sorted_there : (lists : List ListInfo) (place : ℕ) (d : ListInfo) → place < length lists → offers_sorted (slice_index_or lists place d) ≡ true
     → Contains (sorted_at lists) true
 sorted_there [] place d within is = absurd (omega arith)
 sorted_there (list ∷ lists) zero d within is = (0, omega arith, is)
 sorted_there (list ∷ lists) (suc place) d within is = let later = sorted_there lists place d (omega arith) is in (suc later.0, omega (arith, later.1), later.2)
 
-has_some : (lists : List Listed) (found : Option ℕ) → position offers_sorted lists ≡ found
+has_some : (lists : List ListInfo) (found : Option ℕ) → position offers_sorted lists ≡ found
     → (◌≡◌ {A = Option ℕ} (if is_some found then None else Some 0) (Some 0) → ⊥)
     → Contains (sorted_at lists) true
 has_some lists None e none = absurd (none refl)
 has_some lists (Some place) e none = sorted_there lists place nothing (found_within offers_sorted lists place e) (found_passes offers_sorted lists place e)
 
-has_to_read : (algorithm : Algorithm) (lists : List Listed) (sorted : List Bool) → sorted_at lists ≡ sorted
+has_to_read : (algorithm : Algorithm) (lists : List ListInfo) (sorted : List Bool) → sorted_at lists ≡ sorted
     → ((list : ℕ) → unread_list algorithm lists ≡ Some list → ⊥) → HasToRead algorithm sorted
 has_to_read Ta lists sorted is none = tt
 has_to_read Nra lists sorted is none = tt
@@ -278,7 +278,7 @@ has_to_read (Early depth) lists sorted is none = tt
 has_to_read Taz lists sorted is none = subst (λ s. Contains s true) is (has_some lists (position offers_sorted lists) refl (none 0))
 
 -- a query is ready
-pub ready_admitted : (x : QueryLine) (ready : Ready) (lists : List Listed) → IsHere x ready.query lists → Screens ready.query lists (Ok ready.count)
+pub ready_admitted : (x : QueryLine) (ready : Ready) (lists : List ListInfo) → IsHere x ready.query lists → Screens ready.query lists (Ok ready.count)
     → map (λ list. list.source) lists ≡ ready.sources.items → versions_at lists ≡ ready.versions.items → sorted_at lists ≡ ready.sorted.items
     → IsAdmitted x ready
 ready_admitted x ready lists here screens sources versions sorted =
@@ -294,9 +294,9 @@ ready_admitted x ready lists here screens sources versions sorted =
           | inr fits ↦ fits
         ];
         counted = small_size lists 0 ready.count screens.2 some (sym (size_there lists 0 some) ∙ screens.1);
-        sources = ap length (sym sources) ∙ length-map lists (λ (list : Listed). list.source) ∙ sym many;
-        versions = ap length (sym versions) ∙ length-map lists (λ (list : Listed). list.version) ∙ sym many;
-        sorted = ap length (sym sorted) ∙ length-map lists (λ (list : Listed). list.sorted) ∙ sym many;
+        sources = ap length (sym sources) ∙ length-map lists (λ (list : ListInfo). list.source) ∙ sym many;
+        versions = ap length (sym versions) ∙ length-map lists (λ (list : ListInfo). list.version) ∙ sym many;
+        sorted = ap length (sym sorted) ∙ length-map lists (λ (list : ListInfo). list.sorted) ∙ sym many;
         readable = has_to_read ready.query.algorithm lists ready.sorted.items sorted (λ list e.
             member_of_all (λ c. (any : Refusal) → ¬ ListsGive ready.query lists c any) list_causes Cause.no_sorted screens.0 (5, omega arith, refl) (NoSorted list) (list, refl, e));
       };
@@ -310,7 +310,7 @@ ready_admitted x ready lists here screens sources versions sorted =
     }
 
 -- a query that fits its lists
-pub fits_weighed : {E : Type 0} (view : View) (q : Query) (lists : List Listed) (n : ℕ) (weighed : Result Weighed E) → AreListed view q lists
+pub fits_weighed : {E : Type 0} (view : View) (q : Query) (lists : List ListInfo) (n : ℕ) (weighed : Result Weighed E) → AreListed view q lists
     → Screens q lists (Ok n) → IfOk weighed (FitsOver lists n) → IfOk weighed (Weighs view q)
 fits_weighed view q lists n (Ok (Fits count sources versions sorted)) listed screens is =
     (lists, listed, subst (λ m. Screens q lists (Ok m)) (sym is.0) screens, is.1, is.2, is.3)

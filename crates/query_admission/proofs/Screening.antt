@@ -11,7 +11,7 @@ use Rattle.cert_text.specs.Refusal.{refused_lists}
 use Rattle.query_admission.specs.View.{is_closed, is_large, differs, lacks_random, lacks_sorted, offers_sorted, unread_list}
 use Rattle.query_admission.specs.Causes.{Cause, ListsGive, NoneOf}
 use Rattle.query_admission.specs.Screening.{Screens, list_causes}
-use Rattle.query_admission.specs.declared.lists.Listed.{Listed}
+use Rattle.query_admission.specs.declared.lists.ListInfo.{ListInfo}
 use Rattle.query_admission.proofs.Positions.{found_within}
 
 -- the list for which others can't be read is one of them
@@ -19,7 +19,7 @@ none_within : (found : Option ℕ) (n list : ℕ) → 0 < n → (if is_some foun
 none_within None n list some e = let first : list ≡ 0 = cc in omega (arith, some)
 none_within (Some place) n list some e = absurd cc
 
-pub unread_within : (algorithm : Algorithm) (lists : List Listed) (list : ℕ) → 0 < length lists → unread_list algorithm lists ≡ Some list → list < length lists
+pub unread_within : (algorithm : Algorithm) (lists : List ListInfo) (list : ℕ) → 0 < length lists → unread_list algorithm lists ≡ Some list → list < length lists
 unread_within Ta lists list some e = found_within lacks_sorted lists list e
 unread_within Nra lists list some e = found_within lacks_sorted lists list e
 unread_within Ca lists list some e = found_within lacks_sorted lists list e
@@ -29,7 +29,7 @@ unread_within (Early depth) lists list some e = found_within lacks_sorted lists 
 unread_within Taz lists list some e = none_within (position offers_sorted lists) (length lists) list some e
 
 -- the lists that a refusal names are lists of the query
-pub lists_named : (q : Query) (lists : List Listed) (cause : Cause) (refusal : Refusal) → 0 < length lists → ListsGive q lists cause refusal
+pub lists_named : (q : Query) (lists : List ListInfo) (cause : Cause) (refusal : Refusal) → 0 < length lists → ListsGive q lists cause refusal
     → All (λ list. list < length lists) (refused_lists refusal)
 lists_named q lists Cause.many_queries refusal some h = absurd h
 lists_named q lists Cause.text refusal some h = absurd h
@@ -54,7 +54,7 @@ lists_named q lists Cause.no_sorted refusal some h =
     (All-from_recursion (λ list. list < length lists) (h.0 ∷ []) (unread_within q.algorithm lists h.0 some h.2, tt))
 
 -- a cause that holds after others that don't is the first
-pub first_cause : (q : Query) (lists : List Listed) (cause : Cause) (earlier later : List Cause) (refusal : Refusal) → list_causes ≡ earlier ++ cause ∷ later
+pub first_cause : (q : Query) (lists : List ListInfo) (cause : Cause) (earlier later : List Cause) (refusal : Refusal) → list_causes ≡ earlier ++ cause ∷ later
     → 0 < length lists
     → AllByRecursion (λ other. (any : Refusal) → ¬ ListsGive q lists other any) earlier → ListsGive q lists cause refusal → Screens q lists (Err refusal)
 first_cause q lists cause earlier later refusal order some none gives = (
@@ -70,6 +70,6 @@ first_cause q lists cause earlier later refusal order some none gives = (
 )
 
 -- where none of them holds there is none
-pub no_cause : (q : Query) (lists : List Listed) → AllByRecursion (λ other. (any : Refusal) → ¬ ListsGive q lists other any) list_causes
+pub no_cause : (q : Query) (lists : List ListInfo) → AllByRecursion (λ other. (any : Refusal) → ¬ ListsGive q lists other any) list_causes
     → NoneOf (ListsGive q lists) list_causes
 no_cause q lists none = All-from_recursion (λ other. (any : Refusal) → ¬ ListsGive q lists other any) list_causes none

@@ -9,7 +9,7 @@ use Rattle.query_core.specs.declared.ready.Ready.{Ready}
 use Rattle.query_core.specs.Ready.{IsReady}
 use Rattle.query_admission.specs.View.{View, AreListed, versions_at, sorted_at, count_of}
 use Rattle.query_admission.specs.Causes.{most_queries, QueryLine, Cause, text_causes, admission_causes, RefusesFor, NoneOf, IsFirstOf}
-use Rattle.query_admission.specs.declared.lists.Listed.{Listed}
+use Rattle.query_admission.specs.declared.lists.ListInfo.{ListInfo}
 use Rattle.query_admission.specs.declared.reading.ReadLine.{ReadLine}
 use Rattle.query_admission.specs.declared.reading.ReadLine.TheVariants.{Refused as NotRead, Query as IsQuery}
 use Rattle.query_admission.specs.declared.admitted.Admitted.{Admitted}
@@ -33,7 +33,7 @@ pub record IsAdmitted (x : QueryLine) (ready : Ready) : Type 0 where
   pub unrefused : NoneOf (RefusesFor x) admission_causes
   pub sound : IsReady ready
   pub reads : Reads x.bytes (Ok ready.query)
-  pub lists : List Listed
+  pub lists : List ListInfo
   pub listed : AreListed x.view ready.query lists
   pub count : count_of lists ≡ Some ready.count
   pub sources : map (λ list. list.source) lists ≡ ready.sources.items

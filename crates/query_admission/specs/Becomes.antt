@@ -11,14 +11,14 @@ use Rattle.query_core.specs.OneAnswer.{IsAnsweredWith}
 use Rattle.query_admission.specs.View.{AreListed, AreTold, versions_at, method_over, count_of}
 use Rattle.query_admission.specs.Causes.{QueryLine, line_causes, RefusesFor, NoneOf}
 use Rattle.query_admission.specs.Admission.{RefusesLine}
-use Rattle.query_admission.specs.declared.lists.Listed.{Listed}
+use Rattle.query_admission.specs.declared.lists.ListInfo.{ListInfo}
 
 -- nothing refuses the line, and its query is answered over lists of so many objects, which had these versions when they were opened: the answer is right,
 -- and where the rows of its lists are told they agree with its transcript
 pub record AnswersLine (x : QueryLine) (q : Query) (count : ℕ) (versions : List ℕ) (answer : Answer) : Type 0 where
   pub unrefused : NoneOf (RefusesFor x) line_causes
   pub reads : Reads x.bytes (Ok q)
-  pub lists : List Listed
+  pub lists : List ListInfo
   pub listed : AreListed x.view q lists
   pub counted : count_of lists ≡ Some count
   pub opened : versions_at lists ≡ versions

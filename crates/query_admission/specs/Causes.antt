@@ -13,7 +13,7 @@ use Rattle.cert_text.specs.declared.refusal.Refusal.TheVariants.{UnknownList, No
 use Rattle.query_core.specs.Algorithms.{asks_grades}
 use Rattle.query_core.specs.OneAnswer.{IsOverRoomWith}
 use Rattle.query_admission.specs.View.{View, AreListed, AreTold, is_closed, is_large, differs, lacks_random, unread_list, method_over, size_stated, count_of}
-use Rattle.query_admission.specs.declared.lists.Listed.{Listed}
+use Rattle.query_admission.specs.declared.lists.ListInfo.{ListInfo}
 use Rattle.topk_base.specs.declared.TheConstants.{MAX_QUERIES}
 
 -- a query line: the lists that it may name, its number in the input, from 1, and its bytes
@@ -73,15 +73,15 @@ pub record Spelled (x : QueryLine) (P : Query → Type 0) : Type 0 where
   pub reads : Reads x.bytes (Ok query)
   pub holds : P query
 
-pub record Over (x : QueryLine) (P : Query → List Listed → Type 0) : Type 0 where
+pub record Over (x : QueryLine) (P : Query → List ListInfo → Type 0) : Type 0 where
   pub query : Query
-  pub lists : List Listed
+  pub lists : List ListInfo
   pub reads : Reads x.bytes (Ok query)
   pub listed : AreListed x.view query lists
   pub holds : P query lists
 
 -- a cause that lies in what a query's lists say of themselves gives this refusal
-abbrev pub ListsGive : Query → List Listed → Cause → Refusal → Type 0
+abbrev pub ListsGive : Query → List ListInfo → Cause → Refusal → Type 0
 ListsGive q lists Cause.not_opened refusal = (list : ℕ) × (refusal ≡ NotOpened list) × (position is_closed lists ≡ Some list)
 ListsGive q lists Cause.too_large refusal =
     (list count : ℕ) × (refusal ≡ TooLarge list count) × (position is_large lists ≡ Some list) × (size_stated lists list ≡ Some count)

@@ -9,7 +9,7 @@ ghost use Rattle.query_admission.specs.View.{View, AreListed, versions_at, sorte
 
 use super::Memory;
 use super::admitted::Admitted;
-use super::lists::{Listed, Lists};
+use super::lists::{ListInfo, Lists};
 use super::reading::{ReadLine, read_line};
 use super::screen::screen;
 use super::seek::{Sought, seek};
@@ -84,7 +84,7 @@ fn admit_query<L: Lists>(alloc: Global, lists: &L, query: Query) -> Result<Admit
     admitted_as(query, weighed)
 }
 
-/// What a query that was weighed comes to, or a want of memory.
+/// What a query that was weighed comes to, or a lack of memory.
 fn admitted_as(query: Query, weighed: Result<Weighed, Memory>) -> Result<Admitted, Memory>
     ensures { result ≡ admitted_as query weighed }
 {
@@ -125,7 +125,7 @@ fn weigh<L: Lists>(alloc: Global, lists: &L, query: &Query) -> Result<Weighed, M
 }
 
 /// Weighs a query against what its lists say of themselves.
-fn weigh_over(alloc: Global, query: &Query, known: &[Listed]) -> Result<Weighed, Memory>
+fn weigh_over(alloc: Global, query: &Query, known: &[ListInfo]) -> Result<Weighed, Memory>
     requires some { 0 < length known.now }
     requires few { length known.now ≤ MAX_LISTS }
     ensures { (view : View) → AreListed view query.now known.now → IfOk result (Weighs view query.now) }
@@ -137,7 +137,7 @@ fn weigh_over(alloc: Global, query: &Query, known: &[Listed]) -> Result<Weighed,
 }
 
 /// What a query of this count comes to, over its lists.
-fn fits(alloc: Global, known: &[Listed], count: u32) -> Result<Weighed, Memory>
+fn fits(alloc: Global, known: &[ListInfo], count: u32) -> Result<Weighed, Memory>
     ensures { IfOk result (FitsOver known.now count) }
 {
     let Ok(sources) = sources_of(alloc, known) else {
@@ -158,7 +158,7 @@ fn fits(alloc: Global, known: &[Listed], count: u32) -> Result<Weighed, Memory>
 }
 
 /// The numbers of the sources of lists.
-fn sources_of(alloc: Global, lists: &[Listed]) -> Result<Vec<u32>, Memory>
+fn sources_of(alloc: Global, lists: &[ListInfo]) -> Result<Vec<u32>, Memory>
     ensures { IfOk result (λ sources. sources.items ≡ map (λ list. list.source) lists.now) }
 {
     let mut sources = Vec::new(alloc);
@@ -171,7 +171,7 @@ fn sources_of(alloc: Global, lists: &[Listed]) -> Result<Vec<u32>, Memory>
 }
 
 /// The versions that lists had when they were opened.
-fn versions_of(alloc: Global, lists: &[Listed]) -> Result<Vec<u64>, Memory>
+fn versions_of(alloc: Global, lists: &[ListInfo]) -> Result<Vec<u64>, Memory>
     ensures { IfOk result (λ versions. versions.items ≡ versions_at lists.now) }
 {
     let mut versions = Vec::new(alloc);
@@ -184,7 +184,7 @@ fn versions_of(alloc: Global, lists: &[Listed]) -> Result<Vec<u64>, Memory>
 }
 
 /// Whether each of these lists offers sorted access.
-fn sorted_of(alloc: Global, lists: &[Listed]) -> Result<Vec<bool>, Memory>
+fn sorted_of(alloc: Global, lists: &[ListInfo]) -> Result<Vec<bool>, Memory>
     ensures { IfOk result (λ sorted. sorted.items ≡ sorted_at lists.now) }
 {
     let mut sorted = Vec::new(alloc);

@@ -12,7 +12,7 @@ mod seek;
 pub use admission::{admit, admit_read};
 pub use admitted::Admitted;
 pub use line_outcome::LineOutcome;
-pub use lists::{Listed, Lists};
+pub use lists::{ListInfo, Lists};
 pub use query_core::Ready;
 pub use reading::{ReadLine, read_line};
 pub use topk_base::Memory;

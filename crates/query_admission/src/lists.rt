@@ -5,7 +5,7 @@ ghost use Rattle.query_admission.specs.View.{View};
 
 /// What a list says of itself.
 #[derive(Clone, Copy, Debug, PartialEq, Eq)]
-pub struct Listed {
+pub struct ListInfo {
     /// How many objects the list states, or None where it wasn't opened.
     pub size: Option<u64>,
     /// Whether the list offers random access.
@@ -25,6 +25,6 @@ pub trait Lists {
     ghost view: { Self → View };
 
     /// What the list of this name says of itself, or None where no list has the name.
-    fn find(&self, name: &[u8]) -> Option<Listed>
+    fn find(&self, name: &[u8]) -> Option<ListInfo>
         ensures { result ≡ (view self.now).listed name.now };
 }

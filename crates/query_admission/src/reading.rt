@@ -39,7 +39,7 @@ pub fn read_line(alloc: Global, line: u64, bytes: &[u8]) -> Result<ReadLine, Mem
     }
 }
 
-/// The refusal of a line whose text has this fault, or None for want of memory.
+/// The refusal of a line whose text has this fault, or None for lack of memory.
 fn refusal_of(fault: QueryFault) -> Option<Refusal>
     ensures { result ≡ text_refusal fault }
 {

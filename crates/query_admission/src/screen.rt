@@ -8,14 +8,14 @@ ghost use Rattle.query_admission.specs.View.{is_closed, is_large, differs, lacks
 ghost use Rattle.query_admission.specs.Causes.{Cause, ListsGive};
 ghost use Rattle.query_admission.specs.Screening.{Decides, Screens};
 
-use super::lists::Listed;
+use super::lists::ListInfo;
 use cert_text::Refusal;
 use query_core::asks_grades;
 use query_text::{Algorithm, Query};
 use topk_base::{MAX_LISTS, MAX_OBJECTS};
 
 /// Whether a list states more objects than a list may have.
-fn is_large(list: &Listed) -> bool
+fn is_large(list: &ListInfo) -> bool
     ensures { result ≡ is_large list.now }
 {
     match list.size {
@@ -25,7 +25,7 @@ fn is_large(list: &Listed) -> bool
 }
 
 /// Whether a list states another size than this.
-fn differs(n: u64, list: &Listed) -> bool
+fn differs(n: u64, list: &ListInfo) -> bool
     ensures { result ≡ differs n list.now }
 {
     match list.size {
@@ -35,49 +35,49 @@ fn differs(n: u64, list: &Listed) -> bool
 }
 
 /// The number of the first list that wasn't opened.
-fn first_closed(lists: &[Listed]) -> Option<usize>
+fn first_closed(lists: &[ListInfo]) -> Option<usize>
     ensures { result ≡ position is_closed lists.now }
 {
     lists.iter().position(|list| list.size.is_none())
 }
 
 /// The number of the first list that is too large.
-fn first_large(lists: &[Listed]) -> Option<usize>
+fn first_large(lists: &[ListInfo]) -> Option<usize>
     ensures { result ≡ position is_large lists.now }
 {
     lists.iter().position(|list| is_large(list))
 }
 
 /// The number of the first list that states another size than this.
-fn first_differing(n: u64, lists: &[Listed]) -> Option<usize>
+fn first_differing(n: u64, lists: &[ListInfo]) -> Option<usize>
     ensures { result ≡ position (differs n) lists.now }
 {
     lists.iter().position(|list| differs(n, list))
 }
 
 /// The number of the first list without random access.
-fn first_lacking(lists: &[Listed]) -> Option<usize>
+fn first_lacking(lists: &[ListInfo]) -> Option<usize>
     ensures { result ≡ position lacks_random lists.now }
 {
     lists.iter().position(|list| !list.random)
 }
 
 /// The number of the first list without sorted access.
-fn first_unsorted(lists: &[Listed]) -> Option<usize>
+fn first_unsorted(lists: &[ListInfo]) -> Option<usize>
     ensures { result ≡ position lacks_sorted lists.now }
 {
     lists.iter().position(|list| !list.sorted)
 }
 
 /// The number of the first list with sorted access.
-fn first_sorted(lists: &[Listed]) -> Option<usize>
+fn first_sorted(lists: &[ListInfo]) -> Option<usize>
     ensures { result ≡ position offers_sorted lists.now }
 {
     lists.iter().position(|list| list.sorted)
 }
 
 /// The number of the first list, unless a list has sorted access.
-fn none_sorted(lists: &[Listed]) -> Option<usize>
+fn none_sorted(lists: &[ListInfo]) -> Option<usize>
     ensures { result ≡ unread_list Taz lists.now }
 {
     if first_sorted(lists).is_some() {
@@ -87,7 +87,7 @@ fn none_sorted(lists: &[Listed]) -> Option<usize>
 }
 
 /// The number of the list for which an algorithm can't read the lists in order, if there is one.
-fn unread_list(algorithm: Algorithm, lists: &[Listed]) -> Option<usize>
+fn unread_list(algorithm: Algorithm, lists: &[ListInfo]) -> Option<usize>
     ensures { result ≡ unread_list algorithm lists.now }
 {
     match algorithm {
@@ -102,7 +102,7 @@ fn unread_list(algorithm: Algorithm, lists: &[Listed]) -> Option<usize>
 }
 
 /// The first list that wasn't opened, if there is one.
-fn not_opened(lists: &[Listed]) -> Option<Refusal>
+fn not_opened(lists: &[ListInfo]) -> Option<Refusal>
     requires { length lists.now ≤ MAX_LISTS }
     ensures why { (query : AnyQuery) → Decides (ListsGive query lists.now Cause.not_opened) result }
     ensures none { IfNone result (position is_closed lists.now ≡ None) }
@@ -114,7 +114,7 @@ fn not_opened(lists: &[Listed]) -> Option<Refusal>
 }
 
 /// The first list that is too large, if there is one.
-fn too_large(lists: &[Listed]) -> Option<Refusal>
+fn too_large(lists: &[ListInfo]) -> Option<Refusal>
     requires { length lists.now ≤ MAX_LISTS }
     ensures why { (query : AnyQuery) → Decides (ListsGive query lists.now Cause.too_large) result }
     ensures none { IfNone result (position is_large lists.now ≡ None) }
@@ -132,7 +132,7 @@ fn too_large(lists: &[Listed]) -> Option<Refusal>
 }
 
 /// The count of a query: the size that its first list states.
-fn count_of(lists: &[Listed]) -> Option<u32>
+fn count_of(lists: &[ListInfo]) -> Option<u32>
     requires { position is_large lists.now ≡ None }
     ensures { result ≡ count_of lists.now }
 {
@@ -140,7 +140,7 @@ fn count_of(lists: &[Listed]) -> Option<u32>
 }
 
 /// The first list that states another size than the first, if there is one.
-fn counts_differ(lists: &[Listed]) -> Option<Refusal>
+fn counts_differ(lists: &[ListInfo]) -> Option<Refusal>
     requires few { length lists.now ≤ MAX_LISTS }
     requires small { position is_large lists.now ≡ None }
     ensures { (query : AnyQuery) → Decides (ListsGive query lists.now Cause.counts_differ) result }
@@ -163,7 +163,7 @@ fn counts_differ(lists: &[Listed]) -> Option<Refusal>
 }
 
 /// Whether more objects are asked for than there are.
-fn k_above_count(query: &Query, lists: &[Listed]) -> Option<Refusal>
+fn k_above_count(query: &Query, lists: &[ListInfo]) -> Option<Refusal>
     requires { position is_large lists.now ≡ None }
     ensures { Decides (ListsGive query.now lists.now Cause.k_above_count) result }
 {
@@ -177,7 +177,7 @@ fn k_above_count(query: &Query, lists: &[Listed]) -> Option<Refusal>
 }
 
 /// The first list without random access, where the query's algorithm makes random accesses.
-fn no_random(query: &Query, lists: &[Listed]) -> Option<Refusal>
+fn no_random(query: &Query, lists: &[ListInfo]) -> Option<Refusal>
     requires { length lists.now ≤ MAX_LISTS }
     ensures { Decides (ListsGive query.now lists.now Cause.no_random) result }
 {
@@ -192,7 +192,7 @@ fn no_random(query: &Query, lists: &[Listed]) -> Option<Refusal>
 
 /// The first list without sorted access, where the query's algorithm reads all lists in order; where it reads those that have it, the
 /// first list of all where none has it.
-fn no_sorted(query: &Query, lists: &[Listed]) -> Option<Refusal>
+fn no_sorted(query: &Query, lists: &[ListInfo]) -> Option<Refusal>
     requires { length lists.now ≤ MAX_LISTS }
     ensures { Decides (ListsGive query.now lists.now Cause.no_sorted) result }
 {
@@ -203,7 +203,7 @@ fn no_sorted(query: &Query, lists: &[Listed]) -> Option<Refusal>
 }
 
 /// The first cause for which a query isn't admitted over its lists, or the count of the query.
-pub(crate) fn screen(query: &Query, lists: &[Listed]) -> Result<u32, Refusal>
+pub(crate) fn screen(query: &Query, lists: &[ListInfo]) -> Result<u32, Refusal>
     requires some { 0 < length lists.now }
     requires few { length lists.now ≤ MAX_LISTS }
     ensures { Screens query.now lists.now result }

@@ -5,7 +5,7 @@ ghost use Rattle.query_admission.specs.Screening.{IsSought};
 ghost use Rattle.query_admission.specs.declared.seek.Sought.TheVariants.{Known, Unknown};
 
 use super::Memory;
-use super::lists::{Listed, Lists};
+use super::lists::{ListInfo, Lists};
 use query_text::Names;
 use std::alloc::Global;
 use topk_base::MAX_LISTS;
@@ -14,14 +14,14 @@ use topk_base::MAX_LISTS;
 #[derive(Drop)]
 pub(crate) enum Sought {
     /// What each of them says of itself, in their order.
-    Known(Vec<Listed>),
+    Known(Vec<ListInfo>),
     /// No list has the name of the query's list of this number, and this is the first such.
     Unknown { list: u8 },
 }
 
 /// Puts what the list of each name says of itself into `known`, which is empty and has room for all, up to the first name that no list
 /// has; and answers that name's number, if there is one. Takes no memory.
-fn find_all<L: Lists>(lists: &L, names: &Names, known: &mut Vec<Listed>) -> Option<u8>
+fn find_all<L: Lists>(lists: &L, names: &Names, known: &mut Vec<ListInfo>) -> Option<u8>
     requires few { length names.now ≤ MAX_LISTS }
     requires none { known.old.items ≡ [] }
     requires room { length names.now ≤ vec_capacity known.old }

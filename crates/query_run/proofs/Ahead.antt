@@ -15,18 +15,18 @@ use Rattle.source_pool.specs.declared.hold.Hold.{Hold}
 use Rattle.source_pool.specs.Passes.{hold_at, OthersStay}
 use Rattle.source_pool.specs.Looks.{MayLookFor, IsCalledAhead, IsNotCalled, AsksAhead, IsWithin}
 use Rattle.query_core.specs.Machines.{state_of}
-use Rattle.query_run.specs.declared.inquiry.Inquiry.{Inquiry}
+use Rattle.query_run.specs.declared.running_query.RunningQuery.{RunningQuery}
 use Rattle.query_run.specs.Inquiries.{list_needed, source_of, is_done}
 use Rattle.query_run.specs.Asking.{IsCertainFor, Wanted}
 use Rattle.query_run.specs.Failing.{HasCalledFor}
-use Rattle.query_run.specs.Looking.{HasForeseen, LooksOnce, LooksAhead, LooksAndAhead, IsReading, IsOnItsWay, WaitsAt, Stands, HasLooked}
+use Rattle.query_run.specs.Looking.{HasPrefetched, LooksOnce, LooksAhead, LooksAndAhead, IsReading, IsOnItsWay, WaitsAt, Stands, HasLooked}
 use Rattle.query_run.specs.Inquiries as inquiries
 use Rattle.query_run.proofs.Fails.{called_front}
 use Rattle.query_run.proofs.Wants.{marks_same, wanted_none, wanted_on, need_called}
 use Rattle.query_run.proofs.Stops.{knows_more, knows_same, hold_knows, looked_on}
 
 -- nothing is foreseen
-foreseen_none : (q : Inquiry) (source : ℕ) (hold : Hold) → HasForeseen q source hold hold
+foreseen_none : (q : RunningQuery) (source : ℕ) (hold : Hold) → HasPrefetched q source hold hold
 foreseen_none q source hold = record {
   waits = refl;
   shown = refl;
@@ -35,11 +35,11 @@ foreseen_none q source hold = record {
   wanted = wanted_none q source hold.pass.1 hold.pass.1 (marks_same hold hold refl);
 }
 
-pub ahead_none : (holds : List Hold) (q : Inquiry) → LooksAhead holds holds q
+pub ahead_none : (holds : List Hold) (q : RunningQuery) → LooksAhead holds holds q
 ahead_none holds q = record { size = refl; each = λ source. foreseen_none q source (hold_at holds source); others = λ source absent. refl }
 
 -- one after another
-foreseen_on : (q : Inquiry) (source : ℕ) (before now after : Hold) → HasForeseen q source before now → HasForeseen q source now after → HasForeseen q source before after
+foreseen_on : (q : RunningQuery) (source : ℕ) (before now after : Hold) → HasPrefetched q source before now → HasPrefetched q source now after → HasPrefetched q source before after
 foreseen_on q source before now after one other = record {
   waits = other.waits ∙ one.waits;
   shown = other.shown ∙ one.shown;
@@ -48,7 +48,7 @@ foreseen_on q source before now after one other = record {
   wanted = wanted_on q source before.pass.1 now.pass.1 after.pass.1 one.knows.follows.met other.knows.follows.met one.wanted other.wanted;
 }
 
-pub ahead_on : (before now after : List Hold) (q : Inquiry) → LooksAhead before now q → LooksAhead now after q → LooksAhead before after q
+pub ahead_on : (before now after : List Hold) (q : RunningQuery) → LooksAhead before now q → LooksAhead now after q → LooksAhead before after q
 ahead_on before now after q one other = record {
   size = other.size ∙ one.size;
   each = λ source. foreseen_on q source (hold_at before source) (hold_at now source) (hold_at after source) (one.each source) (other.each source);
@@ -56,13 +56,13 @@ ahead_on before now after q one other = record {
 }
 
 -- what a turn that asks for a need to come wants
-wanted_ahead : (q : Inquiry) (source : ℕ) (n : Need) (before after : Hold) (missing : Bool) → list_needed n < length q.sources.items → source_of q (list_needed n) ≡ source
+wanted_ahead : (q : RunningQuery) (source : ℕ) (n : Need) (before after : Hold) (missing : Bool) → list_needed n < length q.sources.items → source_of q (list_needed n) ≡ source
     → IsCertainFor q n → MatchBool missing (IsCalledAhead n before after) (IsNotCalled n before after) → Wanted q source before.pass.1 after.pass.1
 wanted_ahead q source n before after true listed of certain h = need_called q source n before.pass.1 after.pass.1 listed of certain h.called
 wanted_ahead q source n before after false listed of certain h = wanted_none q source before.pass.1 after.pass.1 h.marks
 
-foreseen_by : (q : Inquiry) (source : ℕ) (n : Need) (before after : Hold) (missing : Bool) → list_needed n < length q.sources.items → source_of q (list_needed n) ≡ source
-    → IsCertainFor q n → AsksAhead n before after missing → (IsWithin before → IsWithin after) → HasForeseen q source before after
+foreseen_by : (q : RunningQuery) (source : ℕ) (n : Need) (before after : Hold) (missing : Bool) → list_needed n < length q.sources.items → source_of q (list_needed n) ≡ source
+    → IsCertainFor q n → AsksAhead n before after missing → (IsWithin before → IsWithin after) → HasPrefetched q source before after
 foreseen_by q source n before after missing listed of certain asks within = record {
   waits = asks.waits;
   shown = asks.shown;
@@ -71,15 +71,15 @@ foreseen_by q source n before after missing listed of certain asks within = reco
   wanted = wanted_ahead q source n before after missing listed of certain asks.called;
 }
 
-pub ahead_by : (before after : List Hold) (q : Inquiry) (source : ℕ) (n : Need) (missing : Bool) → length after ≡ length before → OthersStay source before after
+pub ahead_by : (before after : List Hold) (q : RunningQuery) (source : ℕ) (n : Need) (missing : Bool) → length after ≡ length before → OthersStay source before after
     → list_needed n < length q.sources.items → source_of q (list_needed n) ≡ source → IsCertainFor q n → AsksAhead n (hold_at before source) (hold_at after source) missing
     → (IsWithin (hold_at before source) → IsWithin (hold_at after source)) → LooksAhead before after q
 ahead_by before after q source n missing long others listed of certain asks within = record {
   size = long;
   each = λ other. elim (eqb_tells other source) [
-    | inl t ↦ subst (λ s. HasForeseen q s (hold_at before s) (hold_at after s)) (sym t.1)
+    | inl t ↦ subst (λ s. HasPrefetched q s (hold_at before s) (hold_at after s)) (sym t.1)
         (foreseen_by q source n (hold_at before source) (hold_at after source) missing listed of certain asks within)
-    | inr f ↦ subst (λ (hold : Hold). HasForeseen q other (hold_at before other) hold) (sym (others.stay other f.1)) (foreseen_none q other (hold_at before other))
+    | inr f ↦ subst (λ (hold : Hold). HasPrefetched q other (hold_at before other) hold) (sym (others.stay other f.1)) (foreseen_none q other (hold_at before other))
   ];
   others = λ other absent. others.stay other (λ e. absent (subst (Contains q.sources.items) (of ∙ sym e) (contains_at q.sources.items (list_needed n) 0 listed)));
 }
@@ -91,7 +91,7 @@ list_is (need.Grade other object) count list of going = of
 list_is need.Done count list of going = absurd (cc)
 
 -- and it may be looked for
-pub may_ahead : (holds : List Hold) (q : Inquiry) (n : Need) (list source : ℕ) → IsReading holds q → list < length q.sources.items → source ≡ source_of q list
+pub may_ahead : (holds : List Hold) (q : RunningQuery) (n : Need) (list source : ℕ) → IsReading holds q → list < length q.sources.items → source ≡ source_of q list
     → IsOf (state_of q.machine).log.count list n → is_done n ≡ false → MayLookFor (hold_at holds source).pass.1 n
 may_ahead holds q (need.Row other depth) list source h l at of going =
     let is = h.each list 0 l in
@@ -102,7 +102,7 @@ may_ahead holds q (need.Grade other object) list source h l at of going = tt
 may_ahead holds q need.Done list source h l at of going = absurd (cc)
 
 -- a query reads on through the pass
-pub reading_ahead : (before after : List Hold) (q : Inquiry) → IsReading before q → LooksAhead before after q → IsReading after q
+pub reading_ahead : (before after : List Hold) (q : RunningQuery) → IsReading before q → LooksAhead before after q → IsReading after q
 reading_ahead before after q h a = record {
   many = h.many;
   each = λ k d l.
@@ -122,7 +122,7 @@ reading_ahead before after q h a = record {
 }
 
 -- and is on its way
-waits_ahead : (before now after : Hold) (q : Inquiry) (source : ℕ) (n : Need) → HasForeseen q source now after → WaitsAt q source n before now → WaitsAt q source n before after
+waits_ahead : (before now after : Hold) (q : RunningQuery) (source : ℕ) (n : Need) → HasPrefetched q source now after → WaitsAt q source n before now → WaitsAt q source n before after
 waits_ahead before now after q source n a h = record {
   here = h.here;
   needs = h.needs;
@@ -132,7 +132,7 @@ waits_ahead before now after q source n a h = record {
       (called_front n now.waiting.noted before.pass.1 now.pass.1 after.pass.1 a.turns h.called);
 }
 
-way_ahead : (before now after : List Hold) (q : Inquiry) → IsOnItsWay before now q → LooksAhead now after q → IsOnItsWay before after q
+way_ahead : (before now after : List Hold) (q : RunningQuery) → IsOnItsWay before now q → LooksAhead now after q → IsOnItsWay before after q
 way_ahead before now after q h a = record {
   waits = λ source n e.
       waits_ahead (hold_at before source) (hold_at now source) (hold_at after source) q source n (a.each source)
@@ -145,7 +145,7 @@ way_ahead before now after q h a = record {
   meets = λ source. begins_on (h.meets source) (a.each source).knows.follows.met;
 }
 
-pub looked_ahead : (before now after : List Hold) (first r : Inquiry) → HasLooked before now first r → r.refusal ≡ None → LooksAhead now after r
+pub looked_ahead : (before now after : List Hold) (first r : RunningQuery) → HasLooked before now first r → r.refusal ≡ None → LooksAhead now after r
     → HasLooked before after first r
 looked_ahead before now after first r h going a = record {
   reading = reading_ahead now after r h.reading a;
@@ -161,14 +161,14 @@ looked_ahead before now after first r h going a = record {
 }
 
 -- one look more, and looks ahead where it is waited
-pub stepped_on : (before now after : List Hold) (first q r : Inquiry) → length after ≡ length now → HasLooked before now first q → inquiries.is_ended q ≡ false
+pub stepped_on : (before now after : List Hold) (first q r : RunningQuery) → length after ≡ length now → HasLooked before now first q → inquiries.is_ended q ≡ false
     → LooksAndAhead now after q r → HasLooked before after first r
 stepped_on before now after first q r long h ending (inl look) = looked_on before now after first q r long h ending look
 stepped_on before now after first q r long h ending (inr w) =
     looked_ahead before w.middle after first r (looked_on before now w.middle first q r w.size h ending w.look) w.going w.ahead
 
 -- the source of a list of the query is there
-pub source_there : (holds : List Hold) (q : Inquiry) (list at source : ℕ) → IsReading holds q → list < (state_of q.machine).log.lists → at ≡ list
+pub source_there : (holds : List Hold) (q : RunningQuery) (list at source : ℕ) → IsReading holds q → list < (state_of q.machine).log.lists → at ≡ list
     → source ≡ slice_index_or q.sources.items at source → (source ≡ source_of q list) × (source < length holds) × (list < length q.sources.items)
 source_there holds q list at source h l here read =
     let many = h.many in
@@ -179,9 +179,9 @@ source_there holds q list at source h l here read =
     (is, subst (λ s. s < length holds) (sym is) in_pool.0, listed)
 
 -- a look, and where it is waited, looks ahead
-pub looked_only : (before after : List Hold) (q r : Inquiry) → LooksOnce before after q r → LooksAndAhead before after q r
+pub looked_only : (before after : List Hold) (q r : RunningQuery) → LooksOnce before after q r → LooksAndAhead before after q r
 looked_only before after q r h = inl h
 
-pub looked_and_ahead : (before middle after : List Hold) (q r : Inquiry) → LooksOnce before middle q r → r.refusal ≡ None → length middle ≡ length before
+pub looked_and_ahead : (before middle after : List Hold) (q r : RunningQuery) → LooksOnce before middle q r → r.refusal ≡ None → length middle ≡ length before
     → LooksAhead middle after r → LooksAndAhead before after q r
 looked_and_ahead before middle after q r look going size ahead = inr (record { middle = middle; look = look; going = going; size = size; ahead = ahead })

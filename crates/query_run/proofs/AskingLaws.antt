@@ -18,7 +18,7 @@ use Rattle.machine_base.specs.Certain.{Meets, IsCertain}
 use Rattle.machine_base.proofs.Certain.{met_more}
 use Rattle.query_core.specs.Methods.{Method, run_with}
 use Rattle.query_core.specs.Machines.{method_of, state_of}
-use Rattle.query_run.specs.declared.inquiry.Inquiry.{Inquiry}
+use Rattle.query_run.specs.declared.running_query.RunningQuery.{RunningQuery}
 use Rattle.query_run.specs.Asking.{IsCertainFor, IsAskedFor, AsksGradeOf}
 
 -- what comes next of a run is met by it
@@ -35,12 +35,12 @@ pub need_met : (run made : List Access) (n : Need) → IsAt run made n → Meets
 need_met run made n at = subst (Meets run) (sym at.next) (next_met run made (slice_get run (length made)) at.begins refl)
 
 -- what is certain for a query, is for a later one
-pub record AsksMore (q r : Inquiry) : Type 0 where
+pub record AsksMore (q r : RunningQuery) : Type 0 where
   pub sources : r.sources.items ≡ q.sources.items
   pub certain : (n : Need) → IsCertainFor q n → IsCertainFor r n
 
 -- a query whose machine stays
-pub same_asks : (q r : Inquiry) → r.sources.items ≡ q.sources.items → method_of r.machine ≡ method_of q.machine → state_of r.machine ≡ state_of q.machine
+pub same_asks : (q r : RunningQuery) → r.sources.items ≡ q.sources.items → method_of r.machine ≡ method_of q.machine → state_of r.machine ≡ state_of q.machine
     → AsksMore q r
 same_asks q r sources method same = record {
   sources = sources;
@@ -49,7 +49,7 @@ same_asks q r sources method same = record {
 }
 
 -- a query that was given what it needs
-pub record WasGiven (q r : Inquiry) : Type 0 where
+pub record WasGiven (q r : RunningQuery) : Type 0 where
   pub sources : r.sources.items ≡ q.sources.items
   pub method : method_of r.machine ≡ method_of q.machine
   pub access : Access
@@ -64,7 +64,7 @@ agrees_before D access t u takes agrees =
     let count = subst (λ n. Agrees t.log.lists n D u.log.accesses) takes.log.count lists in
     agrees_front t.log.lists t.log.count D t.log.accesses (access ∷ []) (subst (Agrees t.log.lists t.log.count D) takes.log.accesses count)
 
-pub given_asks : (q r : Inquiry) → WasGiven q r → AsksMore q r
+pub given_asks : (q r : RunningQuery) → WasGiven q r → AsksMore q r
 given_asks q r h = record {
   sources = h.sources;
   certain = λ n c. record {
@@ -78,7 +78,7 @@ given_asks q r h = record {
 }
 
 -- what a query wanted, a later one wanted
-pub asked_more : (q r : Inquiry) (source depth : ℕ) → AsksMore q r → IsAskedFor q source depth → IsAskedFor r source depth
+pub asked_more : (q r : RunningQuery) (source depth : ℕ) → AsksMore q r → IsAskedFor q source depth → IsAskedFor r source depth
 asked_more q r source depth more h = record {
   list = h.list;
   listed = subst (λ xs. h.list < length xs) (sym more.sources) h.listed;
@@ -86,7 +86,7 @@ asked_more q r source depth more h = record {
   deep = more.certain (need.Row h.list depth) h.deep;
 }
 
-pub grade_more : (q r : Inquiry) (source object : ℕ) → AsksMore q r → AsksGradeOf q source object → AsksGradeOf r source object
+pub grade_more : (q r : RunningQuery) (source object : ℕ) → AsksMore q r → AsksGradeOf q source object → AsksGradeOf r source object
 grade_more q r source object more h = record {
   list = h.list;
   listed = subst (λ xs. h.list < length xs) (sym more.sources) h.listed;

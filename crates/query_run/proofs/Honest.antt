@@ -32,7 +32,7 @@ use Rattle.query_core.specs.Machines.{method_of, state_of}
 use Rattle.query_core.proofs.Feeding.{no_stranger, room_stops}
 use Rattle.query_run.specs.declared.ended.Refusal.{Refusal}
 use Rattle.query_run.specs.declared.ended.Refusal.TheVariants as refusal
-use Rattle.query_run.specs.declared.inquiry.Inquiry.{Inquiry}
+use Rattle.query_run.specs.declared.running_query.RunningQuery.{RunningQuery}
 use Rattle.query_run.specs.Inquiries.{told_to, needed, list_needed, source_of, source_needed, is_done}
 use Rattle.query_run.specs.Causes.{LacksRoom, RowLacksRoom, IsAtFault, IsMissed, AreAsksFull, IsCause, CanNotBeHad}
 use Rattle.query_run.specs.Kept.{IsServed}
@@ -47,11 +47,11 @@ list_is lists [] list l = absurd (omega (arith, l))
 list_is lists (source ∷ sources) zero l = refl
 list_is lists (source ∷ sources) (suc list) l = list_is lists sources list (omega (arith, l))
 
-pub source_ranked : (lists : List (List Row)) (q : Inquiry) (source : ℕ) → HasTable lists q → Contains q.sources.items source → IsRanked (list_at lists source)
+pub source_ranked : (lists : List (List Row)) (q : RunningQuery) (source : ℕ) → HasTable lists q → Contains q.sources.items source → IsRanked (list_at lists source)
 source_ranked lists q source table c = member_of_all IsRanked (lists_of lists q) (list_at lists source) table.ranked (contains_map (list_at lists) q.sources.items source c)
 
 -- the state of one source changed
-pub true_set : (lists : List (List Row)) (states : List State) (q r : Inquiry) (source : ℕ) (u : State) → source < length states
+pub true_set : (lists : List (List Row)) (states : List State) (q r : RunningQuery) (source : ℕ) (u : State) → source < length states
     → r.sources.items ≡ q.sources.items → (state_of r.machine).log.count ≡ (state_of q.machine).log.count
     → (Contains q.sources.items source → IsTrueOf (list_at lists source) u) → IsTrueFor lists states q → IsTrueFor lists (slice_set states source u) r
 true_set lists states q r source u l same count changed h = record {
@@ -66,7 +66,7 @@ true_set lists states q r source u l same count changed h = record {
 }
 
 -- the lists of a query agree with its transcript
-pub true_agrees : (lists : List (List Row)) (states : List State) (q : Inquiry) → All IsSound states → IsServed states q → IsTrueFor lists states q
+pub true_agrees : (lists : List (List Row)) (states : List State) (q : RunningQuery) → All IsSound states → IsServed states q → IsTrueFor lists states q
     → AgreesWith (lists_of lists q) (state_of q.machine).log
 true_agrees lists states q sound h is = record {
   lists = length-map q.sources.items (list_at lists) ∙ h.sources.many;
@@ -111,7 +111,7 @@ true_agrees lists states q sound h is = record {
     grows = record { rows = front; known = known }
 
 -- the object of a needed grade stands in the list, where the query's lists agree with its transcript
-pub needed_stands : (lists : List (List Row)) (states : List State) (q : Inquiry) (n : Need) → IsServed states q
+pub needed_stands : (lists : List (List Row)) (states : List State) (q : RunningQuery) (n : Need) → IsServed states q
     → AgreesWith (lists_of lists q) (state_of q.machine).log → needed q ≡ n → is_done n ≡ false → IsOfObject (list_at lists (source_of q (list_needed n))) n
 needed_stands lists states q (need.Row list depth) h agrees e going = tt
 needed_stands lists states q (need.Grade list object) h agrees e going =
@@ -122,17 +122,17 @@ needed_stands lists states q (need.Grade list object) h agrees e going =
     subst (λ rows. Contains (objects rows) object) (list_is lists q.sources.items list (omega (arith, serves.0, long))) there
 needed_stands lists states q need.Done h agrees e going = absurd (cc)
 
-pub need_of_object : (lists : List (List Row)) (states : List State) (q : Inquiry) (n : Need) → All IsSound states → IsServed states q → IsTrueFor lists states q
+pub need_of_object : (lists : List (List Row)) (states : List State) (q : RunningQuery) (n : Need) → All IsSound states → IsServed states q → IsTrueFor lists states q
     → needed q ≡ n → is_done n ≡ false → IsOfObject (list_at lists (source_of q (list_needed n))) n
 need_of_object lists states q n sound h is e going = needed_stands lists states q n h (true_agrees lists states q sound h is) e going
 
 -- a query's lists agree with its transcript, and begin with the rows that the logs of their sources have
-pub record ReadsThem (lists : List (List Row)) (states : List State) (q : Inquiry) : Type 0 where
+pub record ReadsThem (lists : List (List Row)) (states : List State) (q : RunningQuery) : Type 0 where
   pub agrees : AgreesWith (lists_of lists q) (state_of q.machine).log
   pub rows : (list : ℕ) → list < length q.sources.items
       → Begins (rows_in (state_at states (source_of q list)).log) (list_at lists (source_of q list))
 
-true_reads : (lists : List (List Row)) (states : List State) (q : Inquiry) → All IsSound states → IsServed states q → IsTrueFor lists states q
+true_reads : (lists : List (List Row)) (states : List State) (q : RunningQuery) → All IsSound states → IsServed states q → IsTrueFor lists states q
     → ReadsThem lists states q
 true_reads lists states q sound h is = record { agrees = true_agrees lists states q sound h is; rows = λ list l. (is.each list 0 l).rows }
 
@@ -144,7 +144,7 @@ row_lacks s t (need.Grade list named) object h = absurd h
 row_lacks s t need.Done object h = absurd h
 
 -- what is known of a query that needs a row whose object has no room
-record LacksOn (D : List (List Row)) (q : Inquiry) : Type 0 where
+record LacksOn (D : List (List Row)) (q : RunningQuery) : Type 0 where
   list : ℕ
   depth : ℕ
   row : Row
@@ -153,7 +153,7 @@ record LacksOn (D : List (List Row)) (q : Inquiry) : Type 0 where
   found : slice_get (list_at D list) (depth - 1) ≡ Some row
   full : ¬ HasRoomFor (state_of q.machine) row.object
 
-lacks_on : (lists : List (List Row)) (states : List State) (q : Inquiry) (object : ℕ) → IsServed states q → ReadsThem lists states q
+lacks_on : (lists : List (List Row)) (states : List State) (q : RunningQuery) (object : ℕ) → IsServed states q → ReadsThem lists states q
     → RowLacksRoom (state_at states (source_needed q)) (state_of q.machine) (needed q) object → LacksOn (lists_of lists q) q
 lacks_on lists states q object h reads lacks =
     let t = state_of q.machine in
@@ -182,7 +182,7 @@ lacks_on lists states q object h reads lacks =
     }
 
 -- the room for which a query is refused is one that it may be refused for
-pub may_lack : (lists : List (List Row)) (states : List State) (q : Inquiry) (fault : CoreFault) → IsServed states q → ReadsThem lists states q
+pub may_lack : (lists : List (List Row)) (states : List State) (q : RunningQuery) (fault : CoreFault) → IsServed states q → ReadsThem lists states q
     → LacksRoom (state_at states (source_needed q)) (state_of q.machine) fault → MayRefuse (lists_of lists q) q (Some (refusal.Core fault))
 may_lack lists states q (Strangers object count) h reads cause =
     let on = lacks_on lists states q object h reads cause.0 in
@@ -225,13 +225,13 @@ none_full list s (need.Grade l object) kept long sound asked of full =
 none_full list s need.Done kept long sound asked of full = full
 
 -- what is known of the source of a need
-pub record NeedsTrue (lists : List (List Row)) (states : List State) (q : Inquiry) : Type 0 where
+pub record NeedsTrue (lists : List (List Row)) (states : List State) (q : RunningQuery) : Type 0 where
   pub is : IsTrueOf (list_at lists (source_needed q)) (state_at states (source_needed q))
   pub sound : IsSound (state_at states (source_needed q))
   pub long : length (list_at lists (source_needed q)) ≡ (state_at states (source_needed q)).count
   pub of : IsOfObject (list_at lists (source_needed q)) (needed q)
 
-needs_true : (lists : List (List Row)) (states : List State) (q : Inquiry) → All IsSound states → IsServed states q → IsTrueFor lists states q
+needs_true : (lists : List (List Row)) (states : List State) (q : RunningQuery) → All IsSound states → IsServed states q → IsTrueFor lists states q
     → is_done (needed q) ≡ false → NeedsTrue lists states q
 needs_true lists states q sound h is going =
     let list = list_needed (needed q) in
@@ -247,14 +247,14 @@ needs_true lists states q sound h is going =
       of = need_of_object lists states q (needed q) sound h is refl going;
     }
 
-may_refuse_look : (lists : List (List Row)) (states : List State) (q : Inquiry) (list : ℕ) (fault : LookFault) → NeedsTrue lists states q
+may_refuse_look : (lists : List (List Row)) (states : List State) (q : RunningQuery) (list : ℕ) (fault : LookFault) → NeedsTrue lists states q
     → CanNotBeHad (state_at states (source_needed q)) (needed q) q.waiting.noted fault → MayRefuse (lists_of lists q) q (Some (refusal.Look list fault))
 may_refuse_look lists states q list (why.Source fault) t had = no_fault (list_at lists (source_needed q)) (state_at states (source_needed q)) (needed q) fault t.is had
 may_refuse_look lists states q list (why.Missing object) t had = none_missed (list_at lists (source_needed q)) (state_at states (source_needed q)) (needed q) object t.is had
 may_refuse_look lists states q list (why.AsksFull kept) t had = none_full (list_at lists (source_needed q)) (state_at states (source_needed q)) (needed q) kept t.long t.sound t.is.asked t.of had
 may_refuse_look lists states q list (why.Call what) t had = tt
 
-may_refuse : (lists : List (List Row)) (states : List State) (q : Inquiry) (refused : Option Refusal) → All IsSound states → IsServed states q
+may_refuse : (lists : List (List Row)) (states : List State) (q : RunningQuery) (refused : Option Refusal) → All IsSound states → IsServed states q
     → IsTrueFor lists states q → IsCause (state_at states (source_needed q)) (state_of q.machine) q.waiting.noted refused
     → MayRefuse (lists_of lists q) q refused
 may_refuse lists states q None sound h is cause = tt
@@ -262,7 +262,7 @@ may_refuse lists states q (Some (refusal.Core fault)) sound h is cause = may_lac
 may_refuse lists states q (Some (refusal.Look list fault)) sound h is cause =
     may_refuse_look lists states q list fault (needs_true lists states q sound h is (of_some_list list (needed q) cause.0)) cause.1
 
-pub on_its_run : (lists : List (List Row)) (states : List State) (q : Inquiry) → All IsSound states → IsServed states q → IsTrueFor lists states q
+pub on_its_run : (lists : List (List Row)) (states : List State) (q : RunningQuery) → All IsSound states → IsServed states q → IsTrueFor lists states q
     → IsOnItsRun lists q
 on_its_run lists states q sound h is = record {
   agrees = true_agrees lists states q sound h is;

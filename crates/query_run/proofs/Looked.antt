@@ -23,7 +23,7 @@ use Rattle.source_pool.specs.declared.hold.Hold.{Hold}
 use Rattle.source_pool.specs.Passes.{hold_at, OthersStay}
 use Rattle.source_pool.specs.Looks.{IsLook, IsTurn}
 use Rattle.query_core.specs.Machines.{state_of}
-use Rattle.query_run.specs.declared.inquiry.Inquiry.{Inquiry}
+use Rattle.query_run.specs.declared.running_query.RunningQuery.{RunningQuery}
 use Rattle.query_run.specs.Inquiries.{told_to}
 use Rattle.query_run.proofs.Serving.{state_set, state_other, fault_ends}
 use Rattle.source_pool.specs.Seen.{state_seen}
@@ -138,7 +138,7 @@ name_on source other before after on = elim (eqb_tells other source) [
 ]
 
 -- a query goes on to be fed from the same states
-pub feeds_still : (source : ℕ) (before after : List Hold) (q : Inquiry) (states : List State) → SeesOn source before after → FeedsFrom before q states
+pub feeds_still : (source : ℕ) (before after : List Hold) (q : RunningQuery) (states : List State) → SeesOn source before after → FeedsFrom before q states
     → FeedsFrom after q states
 feeds_still source before after q states on h = record {
   long = h.long ∙ sym on.long;
@@ -149,7 +149,7 @@ feeds_still source before after q states on h = record {
 }
 
 -- or from the state that was seen
-pub feeds_later : (source : ℕ) (before after : List Hold) (q : Inquiry) (states : List State) → SeesOn source before after → FeedsFrom before q states
+pub feeds_later : (source : ℕ) (before after : List Hold) (q : RunningQuery) (states : List State) → SeesOn source before after → FeedsFrom before q states
     → source < length before → IsSound (state_seen (hold_at after source).pass.1)
     → (hold_at before source).pass.1.name.1 ≡ (state_of q.machine).log.count
     → length q.sources.items ≡ (state_of q.machine).log.lists

@@ -17,7 +17,7 @@ use Rattle.query_core.specs.Machines.{method_of, state_of}
 use Rattle.query_core.proofs.Feeding.{continues_same, continues_on}
 use Rattle.query_run.specs.declared.ended.Refusal.{Refusal}
 use Rattle.query_run.specs.declared.ended.Refusal.TheVariants as refusal
-use Rattle.query_run.specs.declared.inquiry.Inquiry.{Inquiry}
+use Rattle.query_run.specs.declared.running_query.RunningQuery.{RunningQuery}
 use Rattle.query_run.specs.Histories.{GoesOn}
 use Rattle.query_run.specs.Inquiries.{is_ended}
 use Rattle.query_run.specs.Turns.{RowTaken, Answers}
@@ -38,21 +38,21 @@ read_more : (access : Access) (t u : MachineState) → Takes access t u → Begi
 read_more access t u h = subst (Begins (accesses t)) (sym h.log.accesses) (begins_with (accesses t) (access ∷ []))
 
 -- what a query makes of an answer
-row_read : (row : Row) (q r : Inquiry) (refused : Option Refusal) → RowTaken row q r refused
+row_read : (row : Row) (q r : RunningQuery) (refused : Option Refusal) → RowTaken row q r refused
     → Begins (accesses (state_of q.machine)) (accesses (state_of r.machine))
 row_read row q r None h = read_more _ (state_of q.machine) (state_of r.machine) h.1
 row_read row q r (Some (refusal.Core (Strangers object count))) h = read_same (state_of q.machine) (state_of r.machine) h.4
 row_read row q r (Some (refusal.Core (RoomFull room))) h = read_same (state_of q.machine) (state_of r.machine) h.3
 row_read row q r (Some (refusal.Look list fault)) h = absurd h
 
-answer_read : (q r : Inquiry) (answer : Look) → Answers q r answer → Begins (accesses (state_of q.machine)) (accesses (state_of r.machine))
+answer_read : (q r : RunningQuery) (answer : Look) → Answers q r answer → Begins (accesses (state_of q.machine)) (accesses (state_of r.machine))
 answer_read q r (look.Row row) h = row_read row q r r.refusal h
 answer_read q r (look.Grade grade) h = read_more _ (state_of q.machine) (state_of r.machine) h.1
 answer_read q r look.NotYet h = read_same (state_of q.machine) (state_of r.machine) (ap state_of h.1)
 answer_read q r (look.Fault fault) h = read_same (state_of q.machine) (state_of r.machine) (ap state_of h.1)
 
 -- a turn of a query that hasn't ended
-pub turn_reads : (q r : Inquiry) (answer : Look) → is_ended q ≡ false → r.sources.items ≡ q.sources.items → method_of r.machine ≡ method_of q.machine
+pub turn_reads : (q r : RunningQuery) (answer : Look) → is_ended q ≡ false → r.sources.items ≡ q.sources.items → method_of r.machine ≡ method_of q.machine
     → Continues (state_of q.machine) (state_of r.machine) → Answers q r answer → ReadsOn q r
 turn_reads q r answer going sources same goes answers = record {
   sources = sources;
@@ -63,10 +63,10 @@ turn_reads q r answer going sources same goes answers = record {
 }
 
 -- no step, and one step after another
-reads_same : (q : Inquiry) → ReadsOn q q
+reads_same : (q : RunningQuery) → ReadsOn q q
 reads_same q = record { sources = refl; method = refl; goes = continues_same (state_of q.machine); read = begins_same (accesses (state_of q.machine)); ended = λ e. refl }
 
-pub reads_on : (p q r : Inquiry) → ReadsOn p q → ReadsOn q r → ReadsOn p r
+pub reads_on : (p q r : RunningQuery) → ReadsOn p q → ReadsOn q r → ReadsOn p r
 reads_on p q r one other = record {
   sources = other.sources ∙ one.sources;
   method = other.method ∙ one.method;
@@ -75,11 +75,11 @@ reads_on p q r one other = record {
   ended = λ e. let same : q ≡ p = one.ended e in other.ended (ap is_ended same ∙ e) ∙ same;
 }
 
-pub all_read_same : (queries : List Inquiry) → AllZip ReadsOn queries queries
+pub all_read_same : (queries : List RunningQuery) → AllZip ReadsOn queries queries
 all_read_same [] = tt
 all_read_same (q ∷ queries) = (reads_same q, all_read_same queries)
 
-pub all_read_on : (ps qs rs : List Inquiry) → AllZip ReadsOn ps qs → AllZip ReadsOn qs rs → AllZip ReadsOn ps rs
+pub all_read_on : (ps qs rs : List RunningQuery) → AllZip ReadsOn ps qs → AllZip ReadsOn qs rs → AllZip ReadsOn ps rs
 all_read_on [] [] [] one other = tt
 all_read_on [] [] (r ∷ rs) one other = absurd other
 all_read_on [] (q ∷ qs) rs one other = absurd one

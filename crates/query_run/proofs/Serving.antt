@@ -34,7 +34,7 @@ use Rattle.query_core.specs.Driving.{Continues, IsFedFrom}
 use Rattle.query_core.proofs.Feeding.{continues_same, row_took, grade_took}
 use Rattle.query_run.specs.declared.ended.Refusal.{Refusal}
 use Rattle.query_run.specs.declared.ended.Refusal.TheVariants as refusal
-use Rattle.query_run.specs.declared.inquiry.Inquiry.{Inquiry}
+use Rattle.query_run.specs.declared.running_query.RunningQuery.{RunningQuery}
 use Rattle.query_run.specs.Histories.{HasHistory}
 use Rattle.query_run.specs.Inquiries.{logs_of, told_to, needed, list_needed, source_of, source_needed, is_done, is_ended}
 use Rattle.query_run.specs.Causes.{RowLacksRoom, LacksRoom, IsOfList, IsCause, IsRefusedForCause, CanNotBeHad}
@@ -106,7 +106,7 @@ told_grows states laters sources later within = record {
 }
 
 -- the source of a list is there, and so is that of a need
-pub source_at : (states : List State) (q : Inquiry) (list : ℕ) → HasSources states q → list < length q.sources.items
+pub source_at : (states : List State) (q : RunningQuery) (list : ℕ) → HasSources states q → list < length q.sources.items
     → IsSourceOf states (state_of q.machine).log.count (source_of q list)
 source_at states q list h l = h.each list 0 l
 
@@ -115,13 +115,13 @@ list_in_range t (need.Row list depth) range going = range.listed
 list_in_range t (need.Grade list object) range going = range
 list_in_range t need.Done range going = absurd (cc)
 
-pub listed : (states : List State) (q : Inquiry) → HasSources states q → MakesItsRun q.machine → is_done (needed q) ≡ false
+pub listed : (states : List State) (q : RunningQuery) → HasSources states q → MakesItsRun q.machine → is_done (needed q) ≡ false
     → list_needed (needed q) < length q.sources.items
 listed states q sources run going =
     let range = list_in_range (state_of q.machine) (needed q) (in_range (run_with (method_of q.machine)) (state_of q.machine) run) going in
     omega (arith, range, sources.many)
 
-pub source_there : (states : List State) (q : Inquiry) → HasSources states q → MakesItsRun q.machine → is_done (needed q) ≡ false
+pub source_there : (states : List State) (q : RunningQuery) → HasSources states q → MakesItsRun q.machine → is_done (needed q) ≡ false
     → IsSourceOf states (state_of q.machine).log.count (source_needed q)
 source_there states q sources run going = source_at states q (list_needed (needed q)) sources (listed states q sources run going)
 
@@ -136,7 +136,7 @@ of_some_list list (need.Row other depth) h = refl
 of_some_list list (need.Grade other object) h = refl
 of_some_list list need.Done h = absurd h
 
-cause_on : (states laters : List State) (q : Inquiry) (refused : Option Refusal) → AreLater states laters
+cause_on : (states laters : List State) (q : RunningQuery) (refused : Option Refusal) → AreLater states laters
     → (is_done (needed q) ≡ false → source_needed q < length states)
     → IsCause (state_at states (source_needed q)) (state_of q.machine) q.waiting.noted refused → IsCause (state_at laters (source_needed q)) (state_of q.machine) q.waiting.noted refused
 cause_on states laters q None later there h = tt
@@ -151,7 +151,7 @@ cause_on states laters q (Some (refusal.Look list fault)) later there h =
     (later.each (source_needed q) (there (of_some_list list (needed q) h.0))) h
 
 -- the sources of a query, with a machine that goes on
-sources_on : (states laters : List State) (q r : Inquiry) → AreLater states laters → HasSources states q → r.sources.items ≡ q.sources.items
+sources_on : (states laters : List State) (q r : RunningQuery) → AreLater states laters → HasSources states q → r.sources.items ≡ q.sources.items
     → Continues (state_of q.machine) (state_of r.machine) → HasSources laters r
 sources_on states laters q r later h same goes = record {
   many = ap (length {A = ℕ}) same ∙ h.many ∙ sym goes.lists;
@@ -161,7 +161,7 @@ sources_on states laters q r later h same goes = record {
 }
 
 -- what a query was fed from goes on
-fed_on : (states laters : List State) (q r : Inquiry) → AreLater states laters → HasSources states q → r.sources.items ≡ q.sources.items
+fed_on : (states laters : List State) (q r : RunningQuery) → AreLater states laters → HasSources states q → r.sources.items ≡ q.sources.items
     → Continues (state_of q.machine) (state_of r.machine) → IsFedFrom (told_to states q) (state_of r.machine)
     → IsFedFrom (told_to laters r) (state_of r.machine)
 fed_on states laters q r later h same goes fed =
@@ -174,7 +174,7 @@ fed_on states laters q r later h same goes fed =
     }
 
 -- later states serve a query as it is
-pub served_stays : (states laters : List State) (q : Inquiry) → AreLater states laters → IsServed states q → IsServed laters q
+pub served_stays : (states laters : List State) (q : RunningQuery) → AreLater states laters → IsServed states q → IsServed laters q
 served_stays states laters q later h = record {
   sources = sources_on states laters q q later h.sources refl (continues_same (state_of q.machine));
   run = h.run;
@@ -185,7 +185,7 @@ served_stays states laters q later h = record {
 
 -- a query that hasn't ended isn't refused and needs something
 
-pub open_parts : (q : Inquiry) → is_ended q ≡ false → (q.refusal ≡ None) × (is_done (needed q) ≡ false)
+pub open_parts : (q : RunningQuery) → is_ended q ≡ false → (q.refusal ≡ None) × (is_done (needed q) ≡ false)
 open_parts q e = let parts = or_parts (is_some q.refusal) (is_done (needed q)) e in (none_unless_some q.refusal parts.0, parts.1)
 
 -- its need may be looked for
@@ -194,12 +194,12 @@ may_look_for t (need.Row list depth) s range going count = let within = range.wi
 may_look_for t (need.Grade list object) s range going count = tt
 may_look_for t need.Done s range going count = absurd (cc)
 
-pub may_look : (states : List State) (q : Inquiry) → IsServed states q → is_done (needed q) ≡ false → MayLook (state_at states (source_needed q)) (needed q)
+pub may_look : (states : List State) (q : RunningQuery) → IsServed states q → is_done (needed q) ≡ false → MayLook (state_at states (source_needed q)) (needed q)
 may_look states q h going =
     may_look_for (state_of q.machine) (needed q) (state_at states (source_needed q)) (in_range (run_with (method_of q.machine)) (state_of q.machine) h.run) going (source_there states q h.sources h.run going).1
 
 -- the logs of a query's sources are sound
-pub logs_sound : (states : List State) (q : Inquiry) → All IsSound states → HasSources states q → All IsSomeSound (logs_of states q.sources.items)
+pub logs_sound : (states : List State) (q : RunningQuery) → All IsSound states → HasSources states q → All IsSomeSound (logs_of states q.sources.items)
 logs_sound states q sound h =
     all_from_members IsSomeSound (logs_of states q.sources.items)
     (λ log c.
@@ -209,7 +209,7 @@ logs_sound states q sound h =
     subst IsSomeSound from.2 (record { count = s.count; asks = s.asks; sound = (sound_at states from.0 sound is.0).log }))
 
 -- the row and the grade that are told of a need
-row_there : (states : List State) (q : Inquiry) (row : Row) → HasSources states q → MakesItsRun q.machine
+row_there : (states : List State) (q : RunningQuery) (row : Row) → HasSources states q → MakesItsRun q.machine
     → (is : IsRowOf (state_at states (source_needed q)) (needed q) row) → slice_get (list_at (told_to states q).rows is.list) (is.depth - 1) ≡ Some row
 row_there states q row h run is =
     let list = is.list in
@@ -218,7 +218,7 @@ row_there states q row h run is =
     let source : source_needed q ≡ source_of q list = ap (λ n. source_of q (list_needed n)) is.is in
     ap (λ (rows : List Row). slice_get rows (is.depth - 1)) (rows_told states q.sources.items list within ∙ ap (λ s. rows_in (state_at states s).log) (sym source)) ∙ is.there
 
-grade_there : (states : List State) (q : Inquiry) (grade : ℕ) → HasSources states q → MakesItsRun q.machine
+grade_there : (states : List State) (q : RunningQuery) (grade : ℕ) → HasSources states q → MakesItsRun q.machine
     → (is : IsGradeAt (state_at states (source_needed q)) (needed q) grade)
     → Contains (list_at (told_to states q).known is.list) (record { object = is.object; grade = grade })
 grade_there states q grade h run is =
@@ -230,7 +230,7 @@ grade_there states q grade h run is =
     subst (λ rows. Contains rows row) (sym (known_told states q.sources.items list within)) (subst (λ s. Contains (rows_in (state_at states s).log ++ graded_in (state_at states s).log) row) source is.known)
 
 -- what a look answers may be fed
-row_may : (states : List State) (q : Inquiry) (row : Row) → All IsSound states → IsServed states q → IsRowOf (state_at states (source_needed q)) (needed q) row
+row_may : (states : List State) (q : RunningQuery) (row : Row) → All IsSound states → IsServed states q → IsRowOf (state_at states (source_needed q)) (needed q) row
     → MayBeNextRow (state_of q.machine).log (needed q) row
 row_may states q row sound h is =
     let t = state_of q.machine in
@@ -241,7 +241,7 @@ row_may states q row sound h is =
     subst (λ n. MayBeNextRow t.log n row) (sym is.is)
     (λ kind of. next_consistent t.log.lists t.log.count (logs_of states q.sources.items) t.log.accesses (Sorted is.list row.object row.grade) kind (logs_sound states q sound h.sources) h.drawn.drawn range.listed gives of)
 
-grade_may : (states : List State) (q : Inquiry) (grade : ℕ) → All IsSound states → IsServed states q
+grade_may : (states : List State) (q : RunningQuery) (grade : ℕ) → All IsSound states → IsServed states q
     → IsGradeAt (state_at states (source_needed q)) (needed q) grade → MayBeNextGrade (state_of q.machine).log (needed q) grade
 grade_may states q grade sound h is =
     let t = state_of q.machine in
@@ -255,7 +255,7 @@ grade_may states q grade sound h is =
     let too_many : IsOfKind t.log.lists t.log.count t.log.accesses (Random is.list is.object grade) too_many_objects = subst (IsOfKind t.log.lists t.log.count t.log.accesses (Random is.list is.object grade)) many of in
     too_many.1 named)
 
-pub may_feed : (states : List State) (q : Inquiry) (u : State) (left : Waiting) (answer : Look) → All IsSound states → IsServed states q
+pub may_feed : (states : List State) (q : RunningQuery) (u : State) (left : Waiting) (answer : Look) → All IsSound states → IsServed states q
     → Looks (needed q) (state_at states (source_needed q)) u q.waiting left answer → MayFeed (state_of q.machine) answer
 may_feed states q u left (look.Row row) sound h looks = row_may states q row sound h (row_decided (state_at states (source_needed q)) (needed q) row looks.decides)
 may_feed states q u left (look.Grade grade) sound h looks = grade_may states q grade sound h (grade_decided (state_at states (source_needed q)) (needed q) grade looks.decides)
@@ -263,30 +263,30 @@ may_feed states q u left look.NotYet sound h looks = tt
 may_feed states q u left (look.Fault fault) sound h looks = tt
 
 -- what a query has after the answer of a look: its machine goes on and is fed from the same logs, it waits for its need alone, and where it is refused its machine stays and there is a cause
-pub record Went (states : List State) (q r : Inquiry) : Type 0 where
+pub record Went (states : List State) (q r : RunningQuery) : Type 0 where
   pub goes : Continues (state_of q.machine) (state_of r.machine)
   pub fed : IsFedFrom (told_to states q) (state_of r.machine)
   pub waits : (n : Need) → r.waiting.need ≡ Some n → n ≡ needed r
   pub cause : (r.refusal ≡ None) ⊎ ((state_of r.machine ≡ state_of q.machine)
       × IsCause (state_at states (source_needed q)) (state_of r.machine) r.waiting.noted r.refusal)
 
-over_waits : (s u : State) (q r : Inquiry) (n : Need) → Ends s u q.waiting r.waiting → r.waiting.need ≡ Some n → n ≡ needed r
+over_waits : (s u : State) (q r : RunningQuery) (n : Need) → Ends s u q.waiting r.waiting → r.waiting.need ≡ Some n → n ≡ needed r
 over_waits s u q r n ends e = absurd (none_not_some (sym (ap (λ (w : Waiting). w.need) ends.over) ∙ e))
 
-over_noted : (s u : State) (q r : Inquiry) → Ends s u q.waiting r.waiting → r.waiting.noted ≡ q.waiting.noted
+over_noted : (s u : State) (q r : RunningQuery) → Ends s u q.waiting r.waiting → r.waiting.noted ≡ q.waiting.noted
 over_noted s u q r ends = ap (λ (w : Waiting). w.noted) ends.over
 
 same_goes : (t u : MachineState) → u ≡ t → Continues t u
 same_goes t u e = subst (Continues t) (sym e) (continues_same t)
 
 -- a row, by what becomes of it
-lacks_room : (states : List State) (q : Inquiry) (row : Row) (object : ℕ) → IsRowOf (state_at states (source_needed q)) (needed q) row → row.object ≡ object
+lacks_room : (states : List State) (q : RunningQuery) (row : Row) (object : ℕ) → IsRowOf (state_at states (source_needed q)) (needed q) row → row.object ≡ object
     → (¬ HasRoomFor (state_of q.machine) row.object) → RowLacksRoom (state_at states (source_needed q)) (state_of q.machine) (needed q) object
 lacks_room states q row object is named full =
     subst (λ n. RowLacksRoom (state_at states (source_needed q)) (state_of q.machine) n object) (sym is.is)
     (row, is.there, named, subst (λ o. ¬ HasRoomFor (state_of q.machine) o) named full)
 
-refused_row : (states : List State) (q r : Inquiry) (u : State) (fault : CoreFault) → IsServed states q
+refused_row : (states : List State) (q r : RunningQuery) (u : State) (fault : CoreFault) → IsServed states q
     → Ends (state_at states (source_needed q)) u q.waiting r.waiting → r.refusal ≡ Some (refusal.Core fault) → state_of r.machine ≡ state_of q.machine
     → LacksRoom (state_at states (source_needed q)) (state_of q.machine) fault → Went states q r
 refused_row states q r u fault h ends e same lacks = record {
@@ -296,7 +296,7 @@ refused_row states q r u fault h ends e same lacks = record {
   cause = inr (same, subst (λ o. IsCause (state_at states (source_needed q)) (state_of r.machine) r.waiting.noted o) (sym e) (subst (λ t. LacksRoom (state_at states (source_needed q)) t fault) (sym same) lacks));
 }
 
-row_went : (states : List State) (q r : Inquiry) (u : State) (row : Row) (refused : Option Refusal) → IsServed states q
+row_went : (states : List State) (q r : RunningQuery) (u : State) (row : Row) (refused : Option Refusal) → IsServed states q
     → Ends (state_at states (source_needed q)) u q.waiting r.waiting → IsRowOf (state_at states (source_needed q)) (needed q) row → r.refusal ≡ refused
     → RowTaken row q r refused → Went states q r
 row_went states q r u row None h ends is e taken =
@@ -310,7 +310,7 @@ row_went states q r u row (Some (refusal.Core (RoomFull room))) h ends is e take
 row_went states q r u row (Some (refusal.Look list fault)) h ends is e taken = absurd taken
 
 -- a grade
-grade_went : (states : List State) (q r : Inquiry) (u : State) (grade : ℕ) → IsServed states q → Ends (state_at states (source_needed q)) u q.waiting r.waiting
+grade_went : (states : List State) (q r : RunningQuery) (u : State) (grade : ℕ) → IsServed states q → Ends (state_at states (source_needed q)) u q.waiting r.waiting
     → IsGradeAt (state_at states (source_needed q)) (needed q) grade → r.refusal ≡ None
     → Takes (grade_access (needed q) grade) (state_of q.machine) (state_of r.machine) → Went states q r
 grade_went states q r u grade h ends is e takes =
@@ -319,7 +319,7 @@ grade_went states q r u grade h ends is e takes =
     record { goes = took.goes; fed = took.fed; waits = λ n w. over_waits (state_at states (source_needed q)) u q r n ends w; cause = inl e }
 
 -- a machine that stays
-pub stays_state : (q r : Inquiry) → r.machine ≡ q.machine → state_of r.machine ≡ state_of q.machine
+pub stays_state : (q r : RunningQuery) → r.machine ≡ q.machine → state_of r.machine ≡ state_of q.machine
 stays_state q r same = ap state_of same
 
 pub own_list : (n : Need) → is_done n ≡ false → IsOfList (list_needed n) n
@@ -334,7 +334,7 @@ fault_ends n s u waiting left (why.AsksFull kept) h = h.ends
 fault_ends n s u waiting left (why.Call what) h = h.ends
 
 -- any answer
-pub went : (states : List State) (q r : Inquiry) (u : State) (answer : Look) → IsServed states q → is_done (needed q) ≡ false
+pub went : (states : List State) (q r : RunningQuery) (u : State) (answer : Look) → IsServed states q → is_done (needed q) ≡ false
     → Looks (needed q) (state_at states (source_needed q)) u q.waiting r.waiting answer → Answers q r answer → Went states q r
 went states q r u (look.Row row) h going looks answers =
     row_went states q r u row r.refusal h looks.ends (row_decided (state_at states (source_needed q)) (needed q) row looks.decides) refl answers
@@ -368,13 +368,13 @@ went states q r u (look.Fault fault) h going looks answers =
     }
 
 -- a turn
-pub record Turned (states laters : List State) (q r : Inquiry) : Type 0 where
+pub record Turned (states laters : List State) (q r : RunningQuery) : Type 0 where
   pub moved : (u : State) × (source_needed q < length states) × Moved (state_at states (source_needed q)) u × (laters ≡ slice_set states (source_needed q) u)
   pub later : AreLater states laters
   pub goes : Continues (state_of q.machine) (state_of r.machine)
   pub served : IsServed laters r
 
-pub turned : (states laters : List State) (q r : Inquiry) → All IsSound states → All HasHistory states → IsServed states q → is_ended q ≡ false
+pub turned : (states laters : List State) (q r : RunningQuery) → All IsSound states → All HasHistory states → IsServed states q → is_ended q ≡ false
     → Turns states laters q r → Turned states laters q r
 turned states laters q r sound histories h going turns =
     let parts = open_parts q going in
@@ -402,7 +402,7 @@ turned states laters q r sound histories h going turns =
       };
     }
   where
-    cause_at : (states laters : List State) (q r : Inquiry) (u : State) → IsLater (state_at states (source_needed q)) u
+    cause_at : (states laters : List State) (q r : RunningQuery) (u : State) → IsLater (state_at states (source_needed q)) u
         → laters ≡ slice_set states (source_needed q) u → source_needed q < length states → r.sources.items ≡ q.sources.items
         → state_of r.machine ≡ state_of q.machine
         → IsCause (state_at states (source_needed q)) (state_of r.machine) r.waiting.noted r.refusal → IsRefusedForCause laters r

@@ -26,7 +26,7 @@ use Rattle.source_pool.specs.Looks.{Answers as LookAnswers}
 use Rattle.source_pool.specs.Looks.{KeepsMarks, KnowsOn, shown_fault, Ends, BeginsToWait, IsLook, IsTurn}
 use Rattle.query_core.specs.Machines.{method_of, state_of, MakesItsRun}
 use Rattle.query_run.specs.declared.ended.Refusal.TheVariants as refusal
-use Rattle.query_run.specs.declared.inquiry.Inquiry.{Inquiry}
+use Rattle.query_run.specs.declared.running_query.RunningQuery.{RunningQuery}
 use Rattle.query_run.specs.Inquiries.{told_to, needed, list_needed, source_of, source_needed, is_done}
 use Rattle.query_run.specs.Causes.{CanNotBeHad, IsCause}
 use Rattle.query_run.specs.Kept.{IsServed}
@@ -46,7 +46,7 @@ use Rattle.query_run.proofs.Steps.{Place}
 use Rattle.query_run.proofs.Fails.{all_turns, gave_one, called_on, called_first, refused_by}
 
 -- a source where nothing is waited for, as long as the query is unrefused
-pub waits_elsewhere : (before now : List Hold) (q : Inquiry) (source : ℕ) → IsOnItsWay before now q → source ≢ source_needed q
+pub waits_elsewhere : (before now : List Hold) (q : RunningQuery) (source : ℕ) → IsOnItsWay before now q → source ≢ source_needed q
     → (hold_at now source).waiting.need ≡ None
 waits_elsewhere before now q source h apart = elim (option_cases (hold_at now source).waiting.need) [
   | inl none ↦ none
@@ -69,7 +69,7 @@ over_of now after knows h = record {
 }
 
 -- at every source: nothing is waited for after such a look, and the marks stay
-all_rest : (before now after : List Hold) (q : Inquiry) → IsOnItsWay before now q → OthersStay (source_needed q) now after
+all_rest : (before now after : List Hold) (q : RunningQuery) → IsOnItsWay before now q → OthersStay (source_needed q) now after
     → Over (hold_at now (source_needed q)) (hold_at after (source_needed q)) → WaitsForNothing after
 all_rest before now after q h others over = record {
   rests = λ source. elim (eqb_tells source (source_needed q)) [
@@ -86,7 +86,7 @@ all_met now after source other others met = elim (eqb_tells other source) [
   | inr f ↦ subst (λ (hold : Hold). IsFrontOf (hold_at now other).pass.1.met hold.pass.1.met) (sym (others.stay other f.1)) (begins_same (hold_at now other).pass.1.met)
 ]
 
-pub all_wants : (before now after : List Hold) (q : Inquiry) (source other : ℕ) → IsOnItsWay before now q → OthersStay source now after
+pub all_wants : (before now after : List Hold) (q : RunningQuery) (source other : ℕ) → IsOnItsWay before now q → OthersStay source now after
     → IsFrontOf (hold_at now source).pass.1.met (hold_at after source).pass.1.met
     → Wanted q source (hold_at now source).pass.1 (hold_at after source).pass.1 → Wanted q other (hold_at before other).pass.1 (hold_at after other).pass.1
 all_wants before now after q source other h others met wanted =
@@ -104,7 +104,7 @@ all_shown before now after source other others same h = elim (eqb_tells other so
 ]
 
 -- a query that was given what it needs
-pub open_given : (before now after : List Hold) (q r : Inquiry) (answer : Look) → IsOnItsWay before now q
+pub open_given : (before now after : List Hold) (q r : RunningQuery) (answer : Look) → IsOnItsWay before now q
     → IsLook (needed q) (hold_at now (source_needed q)) (hold_at after (source_needed q)) answer → OthersStay (source_needed q) now after
     → Over (hold_at now (source_needed q)) (hold_at after (source_needed q))
     → (hold_at after (source_needed q)).shown ≡ (hold_at now (source_needed q)).shown → WasGiven q r → IsOnItsWay before after r
@@ -118,10 +118,10 @@ open_given before now after q r answer h looks others over shown given = record 
 }
 
 -- a query that waits, for what it needs
-source_same : (q r : Inquiry) → r.sources.items ≡ q.sources.items → state_of r.machine ≡ state_of q.machine → source_needed r ≡ source_needed q
+source_same : (q r : RunningQuery) → r.sources.items ≡ q.sources.items → state_of r.machine ≡ state_of q.machine → source_needed r ≡ source_needed q
 source_same q r sources same = ap (λ xs. slice_index_or xs (list_needed (needed r)) 0) sources ∙ ap (λ (t : MachineState). source_of q (list_needed t.need)) same
 
-waits_same : (q r : Inquiry) (source : ℕ) (n m : Need) (answer : Look) (before now after : Hold) → r.sources.items ≡ q.sources.items
+waits_same : (q r : RunningQuery) (source : ℕ) (n m : Need) (answer : Look) (before now after : Hold) → r.sources.items ≡ q.sources.items
     → state_of r.machine ≡ state_of q.machine
     → IsTurn m now after answer → after.waiting ≡ now.waiting → WaitsAt q source n before now → WaitsAt r source n before after
 waits_same q r source n m answer before now after sources same turn waiting h = record {
@@ -139,7 +139,7 @@ need_same (need.Grade list object) going = eqb_same object
 need_same need.Done going = absurd (cc)
 
 -- what begins to be waited for wasn't waited for before
-not_yet : (before now : List Hold) (q : Inquiry) → IsOnItsWay before now q → waits_for (hold_at now (source_needed q)).waiting.need (needed q) ≡ false
+not_yet : (before now : List Hold) (q : RunningQuery) → IsOnItsWay before now q → waits_for (hold_at now (source_needed q)).waiting.need (needed q) ≡ false
     → (hold_at now (source_needed q)).waiting.need ≡ None
 not_yet before now q h unwaited = elim (option_cases (hold_at now (source_needed q)).waiting.need) [
   | inl none ↦ none
@@ -151,7 +151,7 @@ not_yet before now q h unwaited = elim (option_cases (hold_at now (source_needed
       absurd (cc)
 ]
 
-begun_waits : (before now after : List Hold) (q r : Inquiry) (n : Need) (answer : Look)
+begun_waits : (before now after : List Hold) (q r : RunningQuery) (n : Need) (answer : Look)
     → IsFrontOf (hold_at before (source_needed q)).pass.1.gave (hold_at now (source_needed q)).pass.1.gave
     → IsTurn (needed q) (hold_at now (source_needed q)) (hold_at after (source_needed q)) answer → r.sources.items ≡ q.sources.items → state_of r.machine ≡ state_of q.machine
     → is_done (needed q) ≡ false → AtMost (hold_at before (source_needed q)).pass.1.tally (hold_at after (source_needed q)).pass.1.tally
@@ -169,7 +169,7 @@ begun_waits before now after q r n answer front turn sources same going most beg
           (called_first (needed q) answer (hold_at before (source_needed q)).pass.1 (hold_at now (source_needed q)) (hold_at after (source_needed q)) front turn begins);
     }
 
-pub open_waits : (before now after : List Hold) (q r : Inquiry) → Place now q → IsOnItsWay before now q
+pub open_waits : (before now after : List Hold) (q r : RunningQuery) → Place now q → IsOnItsWay before now q
     → IsTurn (needed q) (hold_at now (source_needed q)) (hold_at after (source_needed q)) look.NotYet → OthersStay (source_needed q) now after
     → (hold_at after (source_needed q)).shown ≡ (hold_at now (source_needed q)).shown
     → r.sources.items ≡ q.sources.items → method_of r.machine ≡ method_of q.machine → state_of r.machine ≡ state_of q.machine → is_done (needed q) ≡ false
@@ -204,7 +204,7 @@ open_waits before now after q r place h turn others shown sources method same go
     ]
 
 -- a query that has ended, by the states from which it was fed, is served by what the pass saw
-pub stop_served : (after : List Hold) (r : Inquiry) (last : Waiting) (states : List State) → length r.sources.items ≡ (state_of r.machine).log.lists
+pub stop_served : (after : List Hold) (r : RunningQuery) (last : Waiting) (states : List State) → length r.sources.items ≡ (state_of r.machine).log.lists
     → ((k d : ℕ) → k < length r.sources.items → IsSourceIn after (state_of r.machine).log.count (slice_index_or r.sources.items k d))
     → MakesItsRun r.machine → FeedsFrom after r states → last.need ≡ None
     → IsCause (state_at (states_seen after) (source_needed r)) (state_of r.machine) last.noted r.refusal → IsServed (states_seen after) (with_waiting last r)
@@ -230,7 +230,7 @@ stop_served after r last states many each run feeds none cause = record {
 }
 
 -- what a query wanted of every source after a look that ended the waiting
-pub all_wanted : (before now after : List Hold) (q r : Inquiry) (source : ℕ) → IsOnItsWay before now q → OthersStay (source_needed q) now after
+pub all_wanted : (before now after : List Hold) (q r : RunningQuery) (source : ℕ) → IsOnItsWay before now q → OthersStay (source_needed q) now after
     → Over (hold_at now (source_needed q)) (hold_at after (source_needed q)) → AsksMore q r
     → Wanted r source (hold_at before source).pass.1 (hold_at after source).pass.1
 all_wanted before now after q r source h others over more =
@@ -242,7 +242,7 @@ abbrev rest_at : Tally → Waiting
 rest_at noted = record { need = None; noted = noted }
 
 -- a query that is refused for its room
-pub core_stops : (before now after : List Hold) (q r : Inquiry) (states : List State) (fault : CoreFault) → IsOnItsWay before now q
+pub core_stops : (before now after : List Hold) (q r : RunningQuery) (states : List State) (fault : CoreFault) → IsOnItsWay before now q
     → OthersStay (source_needed q) now after
     → Over (hold_at now (source_needed q)) (hold_at after (source_needed q))
     → (hold_at after (source_needed q)).shown ≡ (hold_at now (source_needed q)).shown
@@ -288,7 +288,7 @@ told_waits waiting n now what e = elim (option_cases waiting.need) [
 ]
 
 -- what was noted is no less than what the pass knew at first
-noted_since : (before now : List Hold) (q : Inquiry) (u : State) (left : Waiting) (fault : LookFault) → IsOnItsWay before now q
+noted_since : (before now : List Hold) (q : RunningQuery) (u : State) (left : Waiting) (fault : LookFault) → IsOnItsWay before now q
     → Refuses (needed q) u u (hold_at now (source_needed q)).waiting left fault
     → AtMost (hold_at before (source_needed q)).pass.1.tally (noted_of fault (hold_at now (source_needed q)).waiting.noted (hold_at before (source_needed q)).pass.1.tally)
 noted_since before now q u left (why.Source fault) h refuses = at_most_same (hold_at before (source_needed q)).pass.1.tally
@@ -297,7 +297,7 @@ noted_since before now q u left (why.AsksFull kept) h refuses = at_most_same (ho
 noted_since before now q u left (why.Call what) h refuses = let m = told_waits (hold_at now (source_needed q)).waiting (needed q) u.tally _ refuses.tells in (h.waits (source_needed q) m.0 m.1).noted
 
 -- a fail is shown at the source of its list
-fault_shown : (before now after : List Hold) (q r : Inquiry) (source : ℕ) (fault : LookFault) → IsOnItsWay before now q → OthersStay (source_needed q) now after
+fault_shown : (before now after : List Hold) (q r : RunningQuery) (source : ℕ) (fault : LookFault) → IsOnItsWay before now q → OthersStay (source_needed q) now after
     → (hold_at after (source_needed q)).shown ≡ shown_fault fault (hold_at now (source_needed q)).shown → r.sources.items ≡ q.sources.items
     → (hold_at after source).shown ≡ shown_to r (Some (refusal.Look (list_needed (needed q)) fault)) source (hold_at before source).shown
 fault_shown before now after q r source fault h others shown sources =
@@ -315,7 +315,7 @@ fault_shown before now after q r source fault h others shown sources =
     ]
 
 -- a query whose need can't be had
-pub fault_stops : (before now after : List Hold) (q r : Inquiry) (states : List State) (fault : LookFault) → IsOnItsWay before now q
+pub fault_stops : (before now after : List Hold) (q r : RunningQuery) (states : List State) (fault : LookFault) → IsOnItsWay before now q
     → OthersStay (source_needed q) now after
     → Over (hold_at now (source_needed q)) (hold_at after (source_needed q))
     → IsTurn (needed q) (hold_at now (source_needed q)) (hold_at after (source_needed q)) (look.Fault fault)
@@ -363,7 +363,7 @@ fault_stops before now after q r states fault h others over turn said shown sour
     }
 
 -- a query that needs nothing more
-pub done_stops : (before now : List Hold) (r : Inquiry) → IsReading now r → IsOnItsWay before now r → r.refusal ≡ None → is_done (needed r) ≡ true
+pub done_stops : (before now : List Hold) (r : RunningQuery) → IsReading now r → IsOnItsWay before now r → r.refusal ≡ None → is_done (needed r) ≡ true
     → HasStopped before now r
 done_stops before now r reading h unrefused done =
     let last = rest_at (hold_at before (source_needed r)).pass.1.tally in

@@ -20,7 +20,7 @@ use Rattle.source_pool.specs.Passes.{hold_at, OthersStay}
 use Rattle.source_pool.specs.Looks.{MayLookFor, shown_by, IsLook, IsWithin, KnowsOn, Waits}
 use Rattle.query_core.specs.Methods.{run_with}
 use Rattle.query_core.specs.Machines.{method_of, state_of, MakesItsRun}
-use Rattle.query_run.specs.declared.inquiry.Inquiry.{Inquiry}
+use Rattle.query_run.specs.declared.running_query.RunningQuery.{RunningQuery}
 use Rattle.query_run.specs.Inquiries.{logs_of, needed, list_needed, source_needed, is_done, is_ended}
 use Rattle.query_run.specs.Kept.{IsServed}
 use Rattle.query_run.specs.Causes.{IsCause}
@@ -34,7 +34,7 @@ use Rattle.query_run.specs.Looking.{FeedsFrom, IsReading, LooksOnce}
 use Rattle.query_run.proofs.Looked.{IsDecidedBy, row_seen, grade_seen, SeesOn, name_on, feeds_later, feeds_still}
 
 -- a query that reads, as one that is served by the states from which it was fed
-served_by : (holds : List Hold) (q : Inquiry) (states : List State) → IsReading holds q → FeedsFrom holds q states → q.refusal ≡ None → IsServed states q
+served_by : (holds : List Hold) (q : RunningQuery) (states : List State) → IsReading holds q → FeedsFrom holds q states → q.refusal ≡ None → IsServed states q
 served_by holds q states h feeds unrefused = record {
   sources = record {
     many = h.many;
@@ -51,7 +51,7 @@ served_by holds q states h feeds unrefused = record {
 }
 
 -- where the need of a query is looked for: at a source of the query, which is there
-pub record Place (holds : List Hold) (q : Inquiry) : Type 0 where
+pub record Place (holds : List Hold) (q : RunningQuery) : Type 0 where
   pub listed : list_needed (needed q) < length q.sources.items
   pub there : source_needed q < length holds
   pub count : (hold_at holds (source_needed q)).pass.1.name.1 ≡ (state_of q.machine).log.count
@@ -63,7 +63,7 @@ may_for t (need.Row list depth) known range going count = let within = range.wit
 may_for t (need.Grade list object) known range going count = tt
 may_for t need.Done known range going count = absurd (cc)
 
-pub placed_at : (holds : List Hold) (q : Inquiry) → IsReading holds q → is_ended q ≡ false → Place holds q
+pub placed_at : (holds : List Hold) (q : RunningQuery) → IsReading holds q → is_ended q ≡ false → Place holds q
 placed_at holds q h going =
     let parts = open_parts q going in
     let served = served_by holds q h.states h h.feeds parts.0 in
@@ -79,7 +79,7 @@ placed_at holds q h going =
     }
 
 -- what is read of a query's sources at the list of its need
-pub source_read : (holds : List Hold) (q : Inquiry) (n : Need) (list source : ℕ) → Place holds q → n ≡ needed q → list ≡ list_needed n
+pub source_read : (holds : List Hold) (q : RunningQuery) (n : Need) (list source : ℕ) → Place holds q → n ≡ needed q → list ≡ list_needed n
     → source ≡ slice_index_or q.sources.items list source → source ≡ source_needed q
 source_read holds q n list source place is at read =
     let here : list ≡ list_needed (needed q) = at ∙ ap list_needed is in
@@ -95,7 +95,7 @@ sees_on source before after long others knows = record { long = long; follows = 
 over_none : (w : Waiting) → w.need ≡ None → w ≡ record w { need = None }
 over_none w e = ap (λ n. record { need = n; noted = w.noted }) e
 
-pub there_too : (holds : List Hold) (q : Inquiry) → (h : IsReading holds q) → Place holds q → source_needed q < length h.states
+pub there_too : (holds : List Hold) (q : RunningQuery) → (h : IsReading holds q) → Place holds q → source_needed q < length h.states
 there_too holds q h place = let long = h.feeds.long in let there = place.there in omega (arith, long, there)
 
 -- what a look answers, as a look at the state that the pass sees
@@ -108,7 +108,7 @@ decided_looks states source n u waiting left answer l by rests same = record {
 }
 
 -- a query reads on through the pass
-still_reads : (source : ℕ) (before after : List Hold) (q : Inquiry) (states : List State) → SeesOn source before after → IsReading before q
+still_reads : (source : ℕ) (before after : List Hold) (q : RunningQuery) (states : List State) → SeesOn source before after → IsReading before q
     → FeedsFrom after q states
     → IsReading after q
 still_reads source before after q states on h feeds = record {
@@ -124,12 +124,12 @@ still_reads source before after q states on h feeds = record {
 }
 
 -- the states from which a query is fed after a look that decided its need
-pub record Fresh (before after : List Hold) (q : Inquiry) (states : List State) : Type 0 where
+pub record Fresh (before after : List Hold) (q : RunningQuery) (states : List State) : Type 0 where
   pub feeds : FeedsFrom after q states
   pub served : IsServed states q
   pub seen : state_at states (source_needed q) ≡ state_seen (hold_at after (source_needed q)).pass.1
 
-pub fresh : (before after : List Hold) (q : Inquiry) → (h : IsReading before q) → q.refusal ≡ None → Place before q → SeesOn (source_needed q) before after
+pub fresh : (before after : List Hold) (q : RunningQuery) → (h : IsReading before q) → q.refusal ≡ None → Place before q → SeesOn (source_needed q) before after
     → IsSound (state_seen (hold_at after (source_needed q)).pass.1)
     → Fresh before after q (slice_set h.states (source_needed q) (state_seen (hold_at after (source_needed q)).pass.1))
 fresh before after q h unrefused place on sound =
@@ -144,7 +144,7 @@ fresh before after q h unrefused place on sound =
     }
 
 -- what a look answers may be fed
-pub look_may : (before after : List Hold) (q : Inquiry) (answer : Look) → IsReading before q → is_ended q ≡ false → SeesOn (source_needed q) before after
+pub look_may : (before after : List Hold) (q : RunningQuery) (answer : Look) → IsReading before q → is_ended q ≡ false → SeesOn (source_needed q) before after
     → IsLook (needed q) (hold_at before (source_needed q)) (hold_at after (source_needed q)) answer → MayFeed (state_of q.machine) answer
 look_may before after q (look.Row row) h going on looks =
     let s = source_needed q in
@@ -176,18 +176,18 @@ pub record LookedAt (n : Need) (source : ℕ) (before after : List Hold) (answer
   pub within : IsWithin (hold_at before source) → IsWithin (hold_at after source)
 
 -- it is the look for what the query needs
-pub at_need : (before after : List Hold) (q : Inquiry) (n : Need) (list source : ℕ) (answer : Look) → IsReading before q → is_ended q ≡ false → n ≡ needed q
+pub at_need : (before after : List Hold) (q : RunningQuery) (n : Need) (list source : ℕ) (answer : Look) → IsReading before q → is_ended q ≡ false → n ≡ needed q
     → list ≡ list_needed n → source ≡ slice_index_or q.sources.items list source → LookedAt n source before after answer
     → LookedAt (needed q) (source_needed q) before after answer
 at_need before after q n list source answer h going is at read looked =
     let here = source_read before q n list source (placed_at before q h going) is at read in
     subst (λ m. LookedAt m (source_needed q) before after answer) is (subst (λ s. LookedAt n s before after answer) here looked)
 
-pub looked_may : (before after : List Hold) (q : Inquiry) (answer : Look) → IsReading before q → is_ended q ≡ false → length after ≡ length before
+pub looked_may : (before after : List Hold) (q : RunningQuery) (answer : Look) → IsReading before q → is_ended q ≡ false → length after ≡ length before
     → LookedAt (needed q) (source_needed q) before after answer → MayFeed (state_of q.machine) answer
 looked_may before after q answer h going long looked = look_may before after q answer h going (sees_on (source_needed q) before after long looked.others looked.knows) looked.look
 
-pub looks_once : (before after : List Hold) (q r : Inquiry) (answer : Look) → LookedAt (needed q) (source_needed q) before after answer → Answers q r answer
+pub looks_once : (before after : List Hold) (q r : RunningQuery) (answer : Look) → LookedAt (needed q) (source_needed q) before after answer → Answers q r answer
     → MakesItsRun r.machine → method_of r.machine ≡ method_of q.machine → r.sources.items ≡ q.sources.items → r.waiting ≡ q.waiting
     → LooksOnce before after q r
 looks_once before after q r answer looked answers run same sources waiting = record {
@@ -207,7 +207,7 @@ looks_once before after q r answer looked answers run same sources waiting = rec
 }
 
 -- a query whose machine stays reads on
-reading_same : (holds : List Hold) (q r : Inquiry) → IsReading holds q → r.sources.items ≡ q.sources.items → r.machine ≡ q.machine → r.waiting ≡ q.waiting
+reading_same : (holds : List Hold) (q r : RunningQuery) → IsReading holds q → r.sources.items ≡ q.sources.items → r.machine ≡ q.machine → r.waiting ≡ q.waiting
     → IsReading holds r
 reading_same holds q r h sources machine waiting =
     let each : All (IsSourceIn holds (state_of q.machine).log.count) r.sources.items = subst (All (IsSourceIn holds (state_of q.machine).log.count)) (sym sources) h.each in
@@ -229,7 +229,7 @@ reading_same holds q r h sources machine waiting =
     }
 
 -- what isn't there yet, is of a source that is there, refuses nothing, and the query reads on
-pub missing_there : (missing : Option (ℕ × ℕ)) (source n : ℕ) (before after : List Hold) (answer : Look) (q r : Inquiry) → source < n → IsReading before q
+pub missing_there : (missing : Option (ℕ × ℕ)) (source n : ℕ) (before after : List Hold) (answer : Look) (q r : RunningQuery) → source < n → IsReading before q
     → SeesOn (source_needed q) before after → r.sources.items ≡ q.sources.items → r.waiting ≡ q.waiting
     → IfSome missing (λ (m : ℕ × ℕ). (m.0 ≡ source) × (answer ≡ look.NotYet)) → Answers q r answer
     → IfSome missing (λ (m : ℕ × ℕ). (m.0 < n) × (r.refusal ≡ None) × IsReading after r)

@@ -33,7 +33,7 @@ use Rattle.query_run.specs.declared.ended.Ended.{Ended}
 use Rattle.query_run.specs.declared.ended.Ended.TheVariants as ended
 use Rattle.query_run.specs.declared.ended.Refusal.{Refusal}
 use Rattle.query_run.specs.declared.ended.Refusal.TheVariants as refusal
-use Rattle.query_run.specs.declared.inquiry.Inquiry.{Inquiry}
+use Rattle.query_run.specs.declared.running_query.RunningQuery.{RunningQuery}
 use Rattle.query_run.specs.Inquiries.{logs_of, told_to, needed, list_needed, source_needed, is_done, is_ended}
 use Rattle.query_run.specs.Causes.{LacksRoom, IsCause}
 use Rattle.query_run.specs.Endings.{EndsAs, IsRight}
@@ -55,14 +55,14 @@ use Rattle.query_run.proofs.Steps.{placed_at, sees_on, fresh, there_too, decided
 use Rattle.query_run.proofs.Stands.{over_of, open_given, open_waits, core_stops, fault_stops, done_stops}
 
 -- what a look made of a query
-record Stepped (before after : List Hold) (q r : Inquiry) : Type 0 where
+record Stepped (before after : List Hold) (q r : RunningQuery) : Type 0 where
   pub goes : Continues (state_of q.machine) (state_of r.machine)
   pub states : List State
   pub feeds : FeedsFrom after r states
   pub stands : Stands before after r r.refusal
 
 -- the sources of the query after a look
-each_on : (now after : List Hold) (q r : Inquiry) → SeesOn (source_needed q) now after → IsReading now q → r.sources.items ≡ q.sources.items
+each_on : (now after : List Hold) (q r : RunningQuery) → SeesOn (source_needed q) now after → IsReading now q → r.sources.items ≡ q.sources.items
     → Continues (state_of q.machine) (state_of r.machine) → (k d : ℕ) → k < length r.sources.items
     → IsSourceIn after (state_of r.machine).log.count (slice_index_or r.sources.items k d)
 each_on now after q r on h sources goes k d l =
@@ -72,12 +72,12 @@ each_on now after q r on h sources goes k d l =
     subst (λ xs. IsSourceIn after (state_of r.machine).log.count (slice_index_or xs k d)) (sym sources)
     (omega (arith, is.0, long), ap (λ (name : ℕ × ℕ). name.1) (name_on (source_needed q) other now after on) ∙ (is.1 ∙ sym goes.count))
 
-many_on : (now : List Hold) (q r : Inquiry) → IsReading now q → r.sources.items ≡ q.sources.items → Continues (state_of q.machine) (state_of r.machine)
+many_on : (now : List Hold) (q r : RunningQuery) → IsReading now q → r.sources.items ≡ q.sources.items → Continues (state_of q.machine) (state_of r.machine)
     → length r.sources.items ≡ (state_of r.machine).log.lists
 many_on now q r h sources goes = ap (length {A = ℕ}) sources ∙ h.many ∙ sym goes.lists
 
 -- a query is fed from the same states after its machine went on
-feeds_on : (after : List Hold) (q r : Inquiry) (states : List State) → FeedsFrom after q states → r.sources.items ≡ q.sources.items
+feeds_on : (after : List Hold) (q r : RunningQuery) (states : List State) → FeedsFrom after q states → r.sources.items ≡ q.sources.items
     → Continues (state_of q.machine) (state_of r.machine) → IsFedFrom (told_to states q) (state_of r.machine) → FeedsFrom after r states
 feeds_on after q r states h sources goes fed = record {
   long = h.long;
@@ -87,11 +87,11 @@ feeds_on after q r states h sources goes fed = record {
   fed = subst (λ xs. IsFedFrom (told_by (logs_of states xs)) (state_of r.machine)) (sym sources) fed;
 }
 
-same_goes : (q r : Inquiry) → state_of r.machine ≡ state_of q.machine → Continues (state_of q.machine) (state_of r.machine)
+same_goes : (q r : RunningQuery) → state_of r.machine ≡ state_of q.machine → Continues (state_of q.machine) (state_of r.machine)
 same_goes q r same = subst (Continues (state_of q.machine)) (sym same) (continues_same (state_of q.machine))
 
 -- after a row
-row_stands : (before now after : List Hold) (q r : Inquiry) (row : Row) (states : List State) (refused : Option Refusal) → IsOnItsWay before now q → IsReading now q
+row_stands : (before now after : List Hold) (q r : RunningQuery) (row : Row) (states : List State) (refused : Option Refusal) → IsOnItsWay before now q → IsReading now q
     → is_done (needed q) ≡ false → SeesOn (source_needed q) now after → (l : LooksOnce now after q r) → l.answer ≡ look.Row row
     → state_at states (source_needed q) ≡ state_seen (hold_at after (source_needed q)).pass.1
     → FeedsFrom after r states → Went states q r → r.refusal ≡ refused → RowTaken row q r refused → Stands before after r refused
@@ -122,7 +122,7 @@ row_stands before now after q r row states (Some (refusal.Core fault)) h reading
     stays (RoomFull room) taken = taken.3
 row_stands before now after q r row states (Some (refusal.Look list fault)) h reading going on l is seen feeds w e taken = absurd taken
 
-step_row : (before now after : List Hold) (q r : Inquiry) (row : Row) → IsOnItsWay before now q → IsReading now q → is_ended q ≡ false
+step_row : (before now after : List Hold) (q r : RunningQuery) (row : Row) → IsOnItsWay before now q → IsReading now q → is_ended q ≡ false
     → SeesOn (source_needed q) now after → (l : LooksOnce now after q r) → l.answer ≡ look.Row row → Stepped before after q r
 step_row before now after q r row h reading ending on l is =
     let s = source_needed q in
@@ -144,7 +144,7 @@ step_row before now after q r row h reading ending on l is =
     }
 
 -- after a grade
-step_grade : (before now after : List Hold) (q r : Inquiry) (grade : ℕ) → IsOnItsWay before now q → IsReading now q → is_ended q ≡ false
+step_grade : (before now after : List Hold) (q r : RunningQuery) (grade : ℕ) → IsOnItsWay before now q → IsReading now q → is_ended q ≡ false
     → SeesOn (source_needed q) now after → (l : LooksOnce now after q r) → l.answer ≡ look.Grade grade → Stepped before after q r
 step_grade before now after q r grade h reading ending on l is =
     let s = source_needed q in
@@ -169,18 +169,18 @@ step_grade before now after q r grade h reading ending on l is =
     }
 
 -- the pass knows at least as much as at first
-tally_more : (sources : List ℕ) (before now after : List Hold) (q : Inquiry) → Advances sources before now → SeesOn (source_needed q) now after
+tally_more : (sources : List ℕ) (before now after : List Hold) (q : RunningQuery) → Advances sources before now → SeesOn (source_needed q) now after
     → AtMost (hold_at before (source_needed q)).pass.1.tally (hold_at after (source_needed q)).pass.1.tally
 tally_more sources before now after q h on = at_most_on (h.knows (source_needed q)).follows.tally on.follows.tally
 
 -- what a query needs is certain
-need_certain : (holds : List Hold) (q : Inquiry) → IsReading holds q → IsCertainFor q (needed q)
+need_certain : (holds : List Hold) (q : RunningQuery) → IsReading holds q → IsCertainFor q (needed q)
 need_certain holds q h = record {
   met = λ D agrees. need_met (run_with (method_of q.machine) (asked_of (state_of q.machine)) D) (state_of q.machine).log.accesses (needed q) (h.run.on_run D agrees);
 }
 
 -- where it isn't there yet
-step_waits : (sources : List ℕ) (before now after : List Hold) (q r : Inquiry) → Advances sources before now → IsOnItsWay before now q → IsReading now q
+step_waits : (sources : List ℕ) (before now after : List Hold) (q r : RunningQuery) → Advances sources before now → IsOnItsWay before now q → IsReading now q
     → is_ended q ≡ false → SeesOn (source_needed q) now after → (l : LooksOnce now after q r) → l.answer ≡ look.NotYet → Stepped before after q r
 step_waits sources before now after q r advances h reading ending on l is =
     let s = source_needed q in
@@ -202,7 +202,7 @@ step_waits sources before now after q r advances h reading ending on l is =
     }
 
 -- where it can't be had
-step_fault : (before now after : List Hold) (q r : Inquiry) (fault : LookFault) → IsOnItsWay before now q → IsReading now q → is_ended q ≡ false
+step_fault : (before now after : List Hold) (q r : RunningQuery) (fault : LookFault) → IsOnItsWay before now q → IsReading now q → is_ended q ≡ false
     → SeesOn (source_needed q) now after → (l : LooksOnce now after q r) → l.answer ≡ look.Fault fault → Stepped before after q r
 step_fault before now after q r fault h reading ending on l is =
     let s = source_needed q in
@@ -225,7 +225,7 @@ step_fault before now after q r fault h reading ending on l is =
           (fault_seen (needed q) (hold_at now s) (hold_at after s) fault turn));
     }
 
-step_by : (sources : List ℕ) (before now after : List Hold) (q r : Inquiry) (answer : Look) → Advances sources before now → IsOnItsWay before now q
+step_by : (sources : List ℕ) (before now after : List Hold) (q r : RunningQuery) (answer : Look) → Advances sources before now → IsOnItsWay before now q
     → IsReading now q
     → is_ended q ≡ false → SeesOn (source_needed q) now after → (l : LooksOnce now after q r) → l.answer ≡ answer → Stepped before after q r
 step_by sources before now after q r (look.Row row) advances h reading ending on l is = step_row before now after q r row h reading ending on l is
@@ -262,7 +262,7 @@ advances_same sources holds = record { size = refl; knows = λ source. knows_sam
 pub hold_knows : (now after : Hold) → KnowsOn now.pass.1 after.pass.1 → (IsWithin now → IsWithin after) → KnowsMore now after
 hold_knows now after knows within = record { follows = knows.follows; name = knows.name; parts = knows.parts; writer = knows.writer; within = within }
 
-advances_on : (sources : List ℕ) (before now after : List Hold) (q r : Inquiry) → Contains sources (source_needed q) → length after ≡ length now
+advances_on : (sources : List ℕ) (before now after : List Hold) (q r : RunningQuery) → Contains sources (source_needed q) → length after ≡ length now
     → LooksOnce now after q r → Advances sources before now → Advances sources before after
 advances_on sources before now after q r among long l h = record {
   size = long ∙ h.size;
@@ -275,7 +275,7 @@ advances_on sources before now after q r among long l h = record {
 }
 
 -- one more look
-pub looked_on : (before now after : List Hold) (first q r : Inquiry) → length after ≡ length now → HasLooked before now first q → is_ended q ≡ false
+pub looked_on : (before now after : List Hold) (first q r : RunningQuery) → length after ≡ length now → HasLooked before now first q → is_ended q ≡ false
     → LooksOnce now after q r → HasLooked before after first r
 looked_on before now after first q r long h ending l =
     let parts = open_parts q ending in
@@ -302,7 +302,7 @@ looked_on before now after first q r long h ending l =
     }
 
 -- no look
-pub looked_none : (before : List Hold) (q : Inquiry) → WaitsForNothing before → IsReading before q → q.refusal ≡ None → HasLooked before before q q
+pub looked_none : (before : List Hold) (q : RunningQuery) → WaitsForNothing before → IsReading before q → q.refusal ≡ None → HasLooked before before q q
 looked_none before q rests reading unrefused = record {
   reading = reading;
   advances = advances_same q.sources.items before;
@@ -319,7 +319,7 @@ looked_none before q rests reading unrefused = record {
 }
 
 -- the end
-pub stopped : (before now : List Hold) (first r : Inquiry) → HasLooked before now first r → is_ended r ≡ true → HasStopped before now r
+pub stopped : (before now : List Hold) (first r : RunningQuery) → HasLooked before now first r → is_ended r ≡ true → HasStopped before now r
 stopped before now first r h end = by_refusal r.refusal refl h.stands end
   where
     by_refusal : (refused : Option Refusal) → r.refusal ≡ refused → Stands before now r refused → (is_some r.refusal || is_done (needed r)) ≡ true
@@ -344,7 +344,7 @@ begun_count count (hold ∷ holds) (suc source) l = begun_count count holds sour
 begun_long : (count : ℕ) (holds : List Hold) → length (begun count holds) ≡ length holds
 begun_long count holds = length-map holds (λ (hold : Hold). opened 0 count)
 
-pub fresh_reads : (holds : List Hold) (ready : Ready) (q : Inquiry) → HasSourcesIn holds ready → IsFresh ready q → IsReading holds q
+pub fresh_reads : (holds : List Hold) (ready : Ready) (q : RunningQuery) → HasSourcesIn holds ready → IsFresh ready q → IsReading holds q
 fresh_reads holds ready q in_pool is =
     let t = state_of q.machine in
     let begins = is.machine.begun in
@@ -370,12 +370,12 @@ fresh_reads holds ready q in_pool is =
     }
 
 -- the ending doesn't ask what was waited for
-ends_with : (last : Waiting) (q : Inquiry) (end : Ended) → EndsAs q end → EndsAs (with_waiting last q) end
+ends_with : (last : Waiting) (q : RunningQuery) (end : Ended) → EndsAs q end → EndsAs (with_waiting last q) end
 ends_with last q (ended.Answered answer) h = record { unrefused = h.unrefused; done = h.done; items = h.items; log = h.log }
 ends_with last q (ended.Core fault) h = h
 ends_with last q (ended.Look list fault) h = h
 
-of_looked : (before after : List Hold) (ready : Ready) (first q : Inquiry) (last : Waiting) → IsFresh ready first → HasLooked before after first q
+of_looked : (before after : List Hold) (ready : Ready) (first q : RunningQuery) (last : Waiting) → IsFresh ready first → HasLooked before after first q
     → IsOf ready (with_waiting last q)
 of_looked before after ready first q last is looked = record {
   is = is.is;
@@ -386,7 +386,7 @@ of_looked before after ready first q last is looked = record {
   sources = looked.sources ∙ is.sources;
 }
 
-pub ran : (before after : List Hold) (ready : Ready) (first q : Inquiry) (end : Ended) → IsFresh ready first → HasLooked before after first q
+pub ran : (before after : List Hold) (ready : Ready) (first q : RunningQuery) (end : Ended) → IsFresh ready first → HasLooked before after first q
     → HasStopped before after q → wants_memory q.refusal ≡ false → EndsAs q end → Ran ready before after end
 ran before after ready first q end is looked stop spared ends = record {
   q = with_waiting stop.last q;
@@ -399,7 +399,7 @@ ran before after ready first q end is looked stop spared ends = record {
 }
 
 -- a query that has stopped ran some way, also where its call failed
-pub ran_some : (before after : List Hold) (ready : Ready) (first q : Inquiry) → IsFresh ready first → HasLooked before after first q
+pub ran_some : (before after : List Hold) (ready : Ready) (first q : RunningQuery) → IsFresh ready first → HasLooked before after first q
     → HasStopped before after q → RanSome ready before after
 ran_some before after ready first q is looked stop =
     inr (with_waiting stop.last q, record { of = of_looked before after ready first q stop.last is looked; served = stop.served; uses = stop.uses })

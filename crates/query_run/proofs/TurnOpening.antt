@@ -1,7 +1,7 @@
 -- Sources before any event, and queries before any access.
 use Rattle.std.proofs.Common.{◌≡◌, ◌<◌, ◌≤◌, ◌+◌, ℕ, zero, suc, List, [], ◌∷◌, length, slice_index_or, All, Contains, refl, sym, ap, subst, ◌∙◌, arith, inl, inr}
 use Rattle.source_state.specs.State.{State, opened, IsSound, state_at}
-use Rattle.query_run.specs.declared.inquiry.Inquiry.{Inquiry}
+use Rattle.query_run.specs.declared.running_query.RunningQuery.{RunningQuery}
 use Rattle.query_run.specs.Made.{opened_from, IsReadyFor, IsOf, IsFresh}
 use Rattle.topk_theory.proofs.AgreementLists.{contains_nil, contains_here, contains_there, contains_cases}
 use Rattle.topk_theory.proofs.Agreement.{drawn_none}
@@ -57,7 +57,7 @@ opened_at first [] source l = absurd (omega (arith, l))
 opened_at first (count ∷ counts) zero l = refl
 opened_at first (count ∷ counts) (suc source) l = opened_at (first + 1) counts source (omega (arith, l))
 
-pub fresh_served : (counts : List ℕ) (ready : Ready) (q : Inquiry) → IsReadyFor counts ready → IsFresh ready q → IsServed (opened_from 0 counts) q
+pub fresh_served : (counts : List ℕ) (ready : Ready) (q : RunningQuery) → IsReadyFor counts ready → IsFresh ready q → IsServed (opened_from 0 counts) q
 fresh_served counts ready q for fresh =
     let t = state_of q.machine in
     let begun = fresh.machine.begun in
@@ -79,5 +79,5 @@ fresh_served counts ready q for fresh =
       cause = subst (λ o. IsCause (state_at (opened_from 0 counts) (source_needed q)) t q.waiting.noted o) (sym fresh.refusal) tt;
     }
 
-pub fresh_of : (ready : Ready) (q : Inquiry) → IsFresh ready q → IsOf ready q
+pub fresh_of : (ready : Ready) (q : RunningQuery) → IsFresh ready q → IsOf ready q
 fresh_of ready q fresh = record { is = fresh.is; first = state_of q.machine; begun = fresh.machine.begun; goes = continues_same (state_of q.machine); method = fresh.machine.method; sources = fresh.sources }

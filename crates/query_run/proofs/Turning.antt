@@ -13,7 +13,7 @@ use Rattle.query_core.specs.declared.machine.Machine.{Machine}
 use Rattle.query_core.specs.Machines.{method_of, state_of, MakesItsRun}
 use Rattle.query_run.specs.declared.ended.Refusal.{Refusal}
 use Rattle.query_run.specs.declared.ended.Refusal.TheVariants as refusal
-use Rattle.query_run.specs.declared.inquiry.Inquiry.{Inquiry}
+use Rattle.query_run.specs.declared.running_query.RunningQuery.{RunningQuery}
 use Rattle.query_run.specs.Inquiries.{needed, list_needed, source_needed, is_ended}
 use Rattle.query_run.specs.Turns.{MayFeed, RowTaken, Answers, Turns}
 use Rattle.query_run.specs.Kept.{IsServed}
@@ -24,11 +24,11 @@ read_at : {X : Type 0} (xs : List X) (i : ℕ) (x d : X) → i < length xs → x
 read_at xs i x d l is = sym is ∙ get_or_read xs i x l is d
 
 -- the source that is looked at is that of what is needed, and the look is one for that
-pub record IsLooked (states : List State) (q : Inquiry) (u : State) (left : Waiting) (answer : Look) (source : ℕ) : Type 0 where
+pub record IsLooked (states : List State) (q : RunningQuery) (u : State) (left : Waiting) (answer : Look) (source : ℕ) : Type 0 where
   pub source_is : source ≡ source_needed q
   pub looks : Looks (needed q) (state_at states (source_needed q)) u q.waiting left answer
 
-looked : (states : List State) (q : Inquiry) (u : State) (left : Waiting) (answer : Look) (n : Need) (place source : ℕ) (s : State) → IsServed states q
+looked : (states : List State) (q : RunningQuery) (u : State) (left : Waiting) (answer : Look) (n : Need) (place source : ℕ) (s : State) → IsServed states q
     → is_ended q ≡ false → n ≡ needed q → place ≡ list_needed n
     → source ≡ slice_index_or q.sources.items place source → s ≡ slice_index_or states source s → Looks n s u q.waiting left answer → IsLooked states q u left answer source
 looked states q u left answer n place source s h going need list read at looks =
@@ -45,25 +45,25 @@ looked states q u left answer n place source s h going need list read at looks =
       looks = subst (λ t. Looks (needed q) t u q.waiting left answer) state_is (subst (λ m. Looks m s u q.waiting left answer) need looks);
     }
 
-pub turn_may : (states : List State) (q : Inquiry) (u : State) (left : Waiting) (answer : Look) (n : Need) (place source : ℕ) (s : State) → IsServed states q
+pub turn_may : (states : List State) (q : RunningQuery) (u : State) (left : Waiting) (answer : Look) (n : Need) (place source : ℕ) (s : State) → IsServed states q
     → is_ended q ≡ false → All IsSound states → n ≡ needed q → place ≡ list_needed n
     → source ≡ slice_index_or q.sources.items place source → s ≡ slice_index_or states source s → Looks n s u q.waiting left answer → MayFeed (state_of q.machine) answer
 turn_may states q u left answer n place source s h going sound need list read at looks =
     may_feed states q u left answer sound h (looked states q u left answer n place source s h going need list read at looks).looks
 
 -- what a query makes of an answer rests on its machine alone
-row_same : (row : Row) (p q r : Inquiry) (refused : Option Refusal) → p.machine ≡ q.machine → RowTaken row p r refused → RowTaken row q r refused
+row_same : (row : Row) (p q r : RunningQuery) (refused : Option Refusal) → p.machine ≡ q.machine → RowTaken row p r refused → RowTaken row q r refused
 row_same row p q r None same h = subst (λ m. Rattle.machine_base.specs.Machine.RowFed row (state_of m) (state_of r.machine) {A = Unit {0}} (Rattle.std.proofs.Common.Ok tt)) same h
 row_same row p q r (Some (refusal.Core fault)) same h = subst (λ m. Rattle.machine_base.specs.Machine.RowFed row (state_of m) (state_of r.machine) {A = Unit {0}} (Rattle.std.proofs.Common.Err fault)) same h
 row_same row p q r (Some (refusal.Look list fault)) same h = h
 
-answers_same : (p q r : Inquiry) (answer : Look) → p.machine ≡ q.machine → Answers p r answer → Answers q r answer
+answers_same : (p q r : RunningQuery) (answer : Look) → p.machine ≡ q.machine → Answers p r answer → Answers q r answer
 answers_same p q r (look.Row row) same h = row_same row p q r r.refusal same h
 answers_same p q r (look.Grade grade) same h = (h.0, subst (λ m. Rattle.machine_base.specs.Machine.Takes (Rattle.machine_base.specs.Machine.grade_access (state_of m).need grade) (state_of m) (state_of r.machine)) same h.1)
 answers_same p q r look.NotYet same h = (h.0, h.1 ∙ same)
 answers_same p q r (look.Fault fault) same h = (h.0 ∙ ap (λ (m : Machine). Some (refusal.Look (list_needed (state_of m).need) fault)) same, h.1 ∙ same)
 
-pub turn_made : (states : List State) (q r : Inquiry) (u : State) (left : Waiting) (answer : Look) (n : Need) (place source : ℕ) (s : State) (p : Inquiry)
+pub turn_made : (states : List State) (q r : RunningQuery) (u : State) (left : Waiting) (answer : Look) (n : Need) (place source : ℕ) (s : State) (p : RunningQuery)
     → IsServed states q → is_ended q ≡ false → n ≡ needed q → place ≡ list_needed n
     → source ≡ slice_index_or q.sources.items place source → s ≡ slice_index_or states source s → Looks n s u q.waiting left answer
     → p.machine ≡ q.machine → Answers p r answer → MakesItsRun r.machine → method_of r.machine ≡ method_of q.machine → r.sources.items ≡ q.sources.items → r.waiting ≡ left → Turns states (slice_set states source u) q r

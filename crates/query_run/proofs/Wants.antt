@@ -12,7 +12,7 @@ use Rattle.topk_theory.proofs.AgreementLists.{contains_here, contains_there, all
 use Rattle.source_state.specs.declared.entry.LogEntry.{LogEntry}
 use Rattle.source_pool.specs.declared.hold.Hold.{Hold}
 use Rattle.source_pool.specs.Looks.{KeepsMarks, HasCalled}
-use Rattle.query_run.specs.declared.inquiry.Inquiry.{Inquiry}
+use Rattle.query_run.specs.declared.running_query.RunningQuery.{RunningQuery}
 use Rattle.query_run.specs.Inquiries.{list_needed, source_of}
 use Rattle.query_run.specs.Asking.{IsCertainFor, IsAskedFor, AsksGradeOf, Wanted}
 use Rattle.query_run.proofs.AskingLaws.{AsksMore, asked_more, grade_more}
@@ -36,7 +36,7 @@ none_apart : AllPairs Apart []
 none_apart = λ i j d lt within. absurd (omega arith)
 
 -- nothing new is wanted
-pub wanted_none : (q : Inquiry) (source : ℕ) (now after : Known LogEntry) → KeepsMarks now after → Wanted q source now after
+pub wanted_none : (q : RunningQuery) (source : ℕ) (now after : Known LogEntry) → KeepsMarks now after → Wanted q source now after
 wanted_none q source now after marks = record {
   rows = inl (let e = marks.high in omega (arith, e));
   news = [];
@@ -60,7 +60,7 @@ apart_append (x ∷ xs) ys one other none =
     (apart_append xs ys (distinct_tail x xs one) other (λ y c. none y (contains_there x xs y c)))
 
 -- what is wanted by one look and then by another
-pub wanted_on : (q : Inquiry) (source : ℕ) (before now after : Known LogEntry) → IsFrontOf before.met now.met → IsFrontOf now.met after.met
+pub wanted_on : (q : RunningQuery) (source : ℕ) (before now after : Known LogEntry) → IsFrontOf before.met now.met → IsFrontOf now.met after.met
     → Wanted q source before now → Wanted q source now after → Wanted q source before after
 wanted_on q source before now after first second one other = record {
   rows = elim other.rows [
@@ -92,7 +92,7 @@ wanted_on q source before now after first second one other = record {
     on_front : (xs ys : List ℕ) (x : ℕ) → IsFrontOf xs ys → Contains xs x → Contains ys x
     on_front xs ys x front c = subst (λ zs. Contains zs x) (sym front.goes_on) (Contains-append_left xs front.rest x c)
 
-    asked_less : (q : Inquiry) (source deep depth : ℕ) → depth ≤ deep → IsAskedFor q source deep → IsAskedFor q source depth
+    asked_less : (q : RunningQuery) (source deep depth : ℕ) → depth ≤ deep → IsAskedFor q source deep → IsAskedFor q source depth
     asked_less q source deep depth less h = record {
       list = h.list;
       listed = h.listed;
@@ -101,7 +101,7 @@ wanted_on q source before now after first second one other = record {
     }
 
 -- the want of a row, and the ask of an object
-row_called : (q : Inquiry) (source list depth : ℕ) (now after : Known LogEntry) → list < length q.sources.items → source_of q list ≡ source
+row_called : (q : RunningQuery) (source list depth : ℕ) (now after : Known LogEntry) → list < length q.sources.items → source_of q list ≡ source
     → IsCertainFor q (need.Row list depth) → HasCalled (need.Row list depth) now after → Wanted q source now after
 row_called q source list depth now after listed of certain called = record {
   rows = elim (cases_lt now.high after.high) [
@@ -125,7 +125,7 @@ row_called q source list depth now after listed of certain called = record {
 one_apart : (x : ℕ) → AllPairs Apart (x ∷ [])
 one_apart x = AllPairs-cons Apart x [] (All-nil (Apart x)) none_apart
 
-grade_called : (q : Inquiry) (source list object : ℕ) (now after : Known LogEntry) → list < length q.sources.items → source_of q list ≡ source
+grade_called : (q : RunningQuery) (source list object : ℕ) (now after : Known LogEntry) → list < length q.sources.items → source_of q list ≡ source
     → IsCertainFor q (need.Grade list object) → HasCalled (need.Grade list object) now after → Wanted q source now after
 grade_called q source list object now after listed of certain called = elim called.added [
   | inl same ↦ record {
@@ -151,14 +151,14 @@ grade_called q source list object now after listed of certain called = elim call
 ]
 
 -- what a need makes that is called for
-pub need_called : (q : Inquiry) (source : ℕ) (n : Need) (now after : Known LogEntry) → list_needed n < length q.sources.items → source_of q (list_needed n) ≡ source
+pub need_called : (q : RunningQuery) (source : ℕ) (n : Need) (now after : Known LogEntry) → list_needed n < length q.sources.items → source_of q (list_needed n) ≡ source
     → IsCertainFor q n → HasCalled n now after → Wanted q source now after
 need_called q source (need.Row list depth) now after listed of certain called = row_called q source list depth now after listed of certain called
 need_called q source (need.Grade list object) now after listed of certain called = grade_called q source list object now after listed of certain called
 need_called q source need.Done now after listed of certain called = absurd called
 
 -- a later query wanted it too
-pub wanted_more : (q r : Inquiry) (source : ℕ) (before now : Known LogEntry) → AsksMore q r → Wanted q source before now → Wanted r source before now
+pub wanted_more : (q r : RunningQuery) (source : ℕ) (before now : Known LogEntry) → AsksMore q r → Wanted q source before now → Wanted r source before now
 wanted_more q r source before now more h = record {
   rows = elim h.rows [ inl kept ↦ inl kept | inr asked ↦ inr (asked_more q r source now.high more asked) ];
   news = h.news;

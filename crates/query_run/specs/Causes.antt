@@ -18,7 +18,7 @@ use Rattle.source_state.specs.State.{State, state_at}
 use Rattle.query_core.specs.Machines.{state_of}
 use Rattle.query_run.specs.declared.ended.Refusal.{Refusal}
 use Rattle.query_run.specs.declared.ended.Refusal.TheVariants.{Core, Look}
-use Rattle.query_run.specs.declared.inquiry.Inquiry.{Inquiry}
+use Rattle.query_run.specs.declared.running_query.RunningQuery.{RunningQuery}
 use Rattle.query_run.specs.Inquiries.{source_needed}
 
 -- the row that is needed is kept, and the machine has no room for its object
@@ -78,5 +78,5 @@ IsCause s t noted None = Unit {0}
 IsCause s t noted (Some (Core fault)) = LacksRoom s t fault
 IsCause s t noted (Some (Look list fault)) = IsOfList list t.need × CanNotBeHad s t.need noted fault
 
-abbrev pub IsRefusedForCause : List State → Inquiry → Type 0
+abbrev pub IsRefusedForCause : List State → RunningQuery → Type 0
 IsRefusedForCause states q = IsCause (state_at states (source_needed q)) (state_of q.machine) q.waiting.noted q.refusal

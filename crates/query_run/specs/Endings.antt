@@ -12,7 +12,7 @@ use Rattle.query_run.specs.declared.ended.Ended.{Ended}
 use Rattle.query_run.specs.declared.ended.Ended.TheVariants as ended
 use Rattle.query_run.specs.declared.ended.Refusal.{Refusal}
 use Rattle.query_run.specs.declared.ended.Refusal.TheVariants as refusal
-use Rattle.query_run.specs.declared.inquiry.Inquiry.{Inquiry}
+use Rattle.query_run.specs.declared.running_query.RunningQuery.{RunningQuery}
 use Rattle.query_run.specs.Inquiries.{needed}
 
 -- an ending is that of a refused query
@@ -22,13 +22,13 @@ IsRefusedEnding refused (ended.Core fault) = refused ≡ refusal.Core fault
 IsRefusedEnding refused (ended.Look list fault) = refused ≡ refusal.Look list fault
 
 -- how a query ended: with the answer of its machine and its transcript, where nothing was needed any more; or as it was refused
-pub record IsAnswerOf (q : Inquiry) (answer : Answer) : Type 0 where
+pub record IsAnswerOf (q : RunningQuery) (answer : Answer) : Type 0 where
   pub unrefused : q.refusal ≡ None
   pub done : needed q ≡ Done
   pub items : AnswersWith (method_of q.machine) (state_of q.machine) answer.items
   pub log : IsSameLog answer.transcript (state_of q.machine).log
 
-abbrev pub EndsAs : Inquiry → Ended → Type 0
+abbrev pub EndsAs : RunningQuery → Ended → Type 0
 EndsAs q (ended.Answered answer) = IsAnswerOf q answer
 EndsAs q (ended.Core fault) = q.refusal ≡ Some (refusal.Core fault)
 EndsAs q (ended.Look list fault) = q.refusal ≡ Some (refusal.Look list fault)

@@ -16,7 +16,7 @@ use Rattle.source_pool.specs.Passes.{hold_at}
 use Rattle.source_pool.specs.Looks.{said_in, HasNoRoom}
 use Rattle.query_run.specs.declared.ended.Refusal.{Refusal}
 use Rattle.query_run.specs.declared.ended.Refusal.TheVariants.{Core, Look as LookedFor}
-use Rattle.query_run.specs.declared.inquiry.Inquiry.{Inquiry}
+use Rattle.query_run.specs.declared.running_query.RunningQuery.{RunningQuery}
 use Rattle.query_run.specs.Inquiries.{needed, source_needed}
 
 -- a turn calls for a need: in what it gave the row is wanted, or the object is asked
@@ -55,7 +55,7 @@ RefusedBy (why.AsksFull kept) need before after = NoAskLeft need after
 RefusedBy (why.Call what) need before after = FailCame what need before after
 
 -- where a look refused the query, what it needed was refused so
-abbrev pub LookRefused : Inquiry → List Hold → List Hold → Option Refusal → Type 0
+abbrev pub LookRefused : RunningQuery → List Hold → List Hold → Option Refusal → Type 0
 LookRefused q before after None = Unit {0}
 LookRefused q before after (Some (Core fault)) = Unit {0}
 LookRefused q before after (Some (LookedFor list fault)) =

@@ -16,7 +16,7 @@ use Rattle.query_core.specs.Driving.{sees_with}
 use Rattle.query_core.specs.Machines.{method_of, state_of}
 use Rattle.query_run.specs.declared.ended.Refusal.{Refusal}
 use Rattle.query_run.specs.declared.ended.Refusal.TheVariants.{Core, Look}
-use Rattle.query_run.specs.declared.inquiry.Inquiry.{Inquiry}
+use Rattle.query_run.specs.declared.running_query.RunningQuery.{RunningQuery}
 
 -- a page is the next rows of a list, one at least
 pub record IsNextOf (list : List Row) (kept rows : List Row) : Type 0 where
@@ -24,11 +24,11 @@ pub record IsNextOf (list : List Row) (kept rows : List Row) : Type 0 where
   pub next : Begins (kept ++ rows) list
 
 -- the lists of a query
-abbrev pub lists_of : List (List Row) → Inquiry → List (List Row)
+abbrev pub lists_of : List (List Row) → RunningQuery → List (List Row)
 lists_of lists q = map (list_at lists) q.sources.items
 
 -- the lists of a query form a table of as many objects as it counts
-abbrev pub HasTable : List (List Row) → Inquiry → Type 0
+abbrev pub HasTable : List (List Row) → RunningQuery → Type 0
 HasTable lists q = IsTable (state_of q.machine).log.count (lists_of lists q)
 
 -- what is settled of an object is a grade of the list
@@ -43,12 +43,12 @@ pub record IsTrueOf (list : List Row) (s : State) : Type 0 where
   pub asked : (object : ℕ) → Contains s.asks object → Contains (objects list) object
 
 -- each query's lists form a table, and the states of its sources tell the truth of them
-pub record IsTrueFor (lists : List (List Row)) (states : List State) (q : Inquiry) : Type 0 where
+pub record IsTrueFor (lists : List (List Row)) (states : List State) (q : RunningQuery) : Type 0 where
   pub table : HasTable lists q
   pub each : All (λ source. IsTrueOf (list_at lists source) (state_at states source)) q.sources.items
 
 -- why a query over its own table may be refused: its room is less than the count and than the objects that its run sees, or a call failed
-abbrev pub MayRefuse : List (List Row) → Inquiry → Option Refusal → Type 0
+abbrev pub MayRefuse : List (List Row) → RunningQuery → Option Refusal → Type 0
 MayRefuse D q None = Unit {0}
 MayRefuse D q (Some (Core (RoomFull room))) =
     (room < (state_of q.machine).log.count) × (room < length (sees_with (method_of q.machine) D (state_of q.machine)))
@@ -57,7 +57,7 @@ MayRefuse _ _ _ = ⊥
 
 -- the lists of a query agree with its transcript, which is how its run on its own table begins, and it is refused for its room or for a
 -- fail alone
-pub record IsOnItsRun (lists : List (List Row)) (q : Inquiry) : Type 0 where
+pub record IsOnItsRun (lists : List (List Row)) (q : RunningQuery) : Type 0 where
   pub agrees : AgreesWith (lists_of lists q) (state_of q.machine).log
   pub begins : Begins (state_of q.machine).log.accesses (run_with (method_of q.machine) (asked_of (state_of q.machine)) (lists_of lists q))
   pub refused : MayRefuse (lists_of lists q) q q.refusal

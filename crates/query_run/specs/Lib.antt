@@ -14,5 +14,5 @@ pub mod Asking
 pub mod Failing
 pub mod Ran
 pub mod Looking
-pub mod Foreseeing
+pub mod Prefetching
 pub mod Serving

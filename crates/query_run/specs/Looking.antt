@@ -16,7 +16,7 @@ use Rattle.query_core.specs.Driving.{Continues, IsFedFrom}
 use Rattle.query_core.specs.Machines.{method_of, state_of, MakesItsRun}
 use Rattle.query_run.specs.declared.ended.Refusal.{Refusal}
 use Rattle.query_run.specs.declared.ended.Refusal.TheVariants.{Core, Look as LookedFor}
-use Rattle.query_run.specs.declared.inquiry.Inquiry.{Inquiry}
+use Rattle.query_run.specs.declared.running_query.RunningQuery.{RunningQuery}
 use Rattle.query_run.specs.Inquiries.{told_to, needed, source_needed, is_done}
 use Rattle.query_run.specs.Kept.{IsServed}
 use Rattle.query_run.specs.Turns.{Answers}
@@ -27,7 +27,7 @@ use Rattle.query_run.specs.Failing.{HasCalledFor, LookRefused}
 use Rattle.query_run.specs.Ran.{Uses}
 
 -- states from which a query was fed: each is sound and has as many objects as the query counts, and the pass saw its log, or a longer one
-pub record FeedsFrom (holds : List Hold) (q : Inquiry) (states : List State) : Type 0 where
+pub record FeedsFrom (holds : List Hold) (q : RunningQuery) (states : List State) : Type 0 where
   pub long : length states ≡ length holds
   pub sound : All IsSound states
   pub counted : (source : ℕ) → source < length states → (state_at states source).count ≡ (state_of q.machine).log.count
@@ -35,7 +35,7 @@ pub record FeedsFrom (holds : List Hold) (q : Inquiry) (states : List State) : T
   pub fed : IsFedFrom (told_to states q) (state_of q.machine)
 
 -- a query that reads through a pass: its sources are there, its machine is on its run, and was fed from what the pass saw
-pub record IsReading (holds : List Hold) (q : Inquiry) : Type 0 where
+pub record IsReading (holds : List Hold) (q : RunningQuery) : Type 0 where
   pub many : length q.sources.items ≡ (state_of q.machine).log.lists
   pub each : All (IsSourceIn holds (state_of q.machine).log.count) q.sources.items
   pub run : MakesItsRun q.machine
@@ -44,7 +44,7 @@ pub record IsReading (holds : List Hold) (q : Inquiry) : Type 0 where
   pub feeds : FeedsFrom holds q states
 
 -- one look for a query's need at its source, by what the pass remembers or in a turn, and what the query makes of the answer
-pub record LooksOnce (before after : List Hold) (q r : Inquiry) : Type 0 where
+pub record LooksOnce (before after : List Hold) (q r : RunningQuery) : Type 0 where
   pub answer : Look
   pub look : IsLook (needed q) (hold_at before (source_needed q)) (hold_at after (source_needed q)) answer
   pub waits : Waits (needed q) (hold_at before (source_needed q)) (hold_at after (source_needed q)) answer
@@ -61,7 +61,7 @@ pub record LooksOnce (before after : List Hold) (q r : Inquiry) : Type 0 where
 
 -- what looks ahead leave of a source's pass: it waits for what it waited for and was shown what it was shown, it knows at least as much, its own turns
 -- go on, and of the source it wanted what is certain for the query
-pub record HasForeseen (q : Inquiry) (source : ℕ) (before now : Hold) : Type 0 where
+pub record HasPrefetched (q : RunningQuery) (source : ℕ) (before now : Hold) : Type 0 where
   pub waits : now.waiting ≡ before.waiting
   pub shown : now.shown ≡ before.shown
   pub knows : KnowsMore before now
@@ -69,25 +69,25 @@ pub record HasForeseen (q : Inquiry) (source : ℕ) (before now : Hold) : Type 0
   pub wanted : Wanted q source before.pass.1 now.pass.1
 
 -- looks ahead of a query at its sources, by which it stays as it is
-pub record LooksAhead (before after : List Hold) (q : Inquiry) : Type 0 where
+pub record LooksAhead (before after : List Hold) (q : RunningQuery) : Type 0 where
   pub size : length after ≡ length before
-  pub each : (source : ℕ) → HasForeseen q source (hold_at before source) (hold_at after source)
+  pub each : (source : ℕ) → HasPrefetched q source (hold_at before source) (hold_at after source)
   pub others : (source : ℕ) → ¬ Contains q.sources.items source → hold_at after source ≡ hold_at before source
 
 -- a look, and where it is waited for what is needed, looks ahead
-pub record WaitsAhead (before after : List Hold) (q r : Inquiry) : Type 0 where
+pub record WaitsAhead (before after : List Hold) (q r : RunningQuery) : Type 0 where
   pub middle : List Hold
   pub look : LooksOnce before middle q r
   pub going : r.refusal ≡ None
   pub size : length middle ≡ length before
   pub ahead : LooksAhead middle after r
 
-abbrev pub LooksAndAhead : List Hold → List Hold → Inquiry → Inquiry → Type 0
+abbrev pub LooksAndAhead : List Hold → List Hold → RunningQuery → RunningQuery → Type 0
 LooksAndAhead before after q r = LooksOnce before after q r ⊎ WaitsAhead before after q r
 
 -- what is waited for at a source is what the query needs; the query called for it, and the tally was noted then, which is no less than what
 -- the pass knew at first
-pub record WaitsAt (q : Inquiry) (source : ℕ) (need : Need) (before now : Hold) : Type 0 where
+pub record WaitsAt (q : RunningQuery) (source : ℕ) (need : Need) (before now : Hold) : Type 0 where
   pub here : source ≡ source_needed q
   pub needs : need ≡ needed q
   pub going : is_done need ≡ false
@@ -95,7 +95,7 @@ pub record WaitsAt (q : Inquiry) (source : ℕ) (need : Need) (before now : Hold
   pub called : HasCalledFor need now.waiting.noted before.pass.1 now.pass.1
 
 -- a query that isn't refused: nothing but its need is waited for, and no fail was shown
-pub record IsOnItsWay (before now : List Hold) (q : Inquiry) : Type 0 where
+pub record IsOnItsWay (before now : List Hold) (q : RunningQuery) : Type 0 where
   pub waits : (source : ℕ) (need : Need) → (hold_at now source).waiting.need ≡ Some need
       → WaitsAt q source need (hold_at before source) (hold_at now source)
   pub shown : (source : ℕ) → (hold_at now source).shown ≡ (hold_at before source).shown
@@ -104,23 +104,23 @@ pub record IsOnItsWay (before now : List Hold) (q : Inquiry) : Type 0 where
   pub meets : (source : ℕ) → IsFrontOf (hold_at before source).pass.1.met (hold_at now source).pass.1.met
 
 -- the query with what it waited for last
-abbrev pub with_waiting : Waiting → Inquiry → Inquiry
+abbrev pub with_waiting : Waiting → RunningQuery → RunningQuery
 with_waiting waiting q = record q { waiting = waiting }
 
 -- a query that has ended, with what it waited for last: its transcript and its refusal rest on what the pass saw, which waits for nothing
-pub record HasStopped (before now : List Hold) (q : Inquiry) : Type 0 where
+pub record HasStopped (before now : List Hold) (q : RunningQuery) : Type 0 where
   pub last : Waiting
   pub served : IsServed (states_seen now) (with_waiting last q)
   pub uses : Uses before now (with_waiting last q)
   pub why : LookRefused q before now q.refusal
   pub rests : WaitsForNothing now
 
-abbrev pub Stands : List Hold → List Hold → Inquiry → Option Refusal → Type 0
+abbrev pub Stands : List Hold → List Hold → RunningQuery → Option Refusal → Type 0
 Stands before now q None = IsOnItsWay before now q
 Stands before now q (Some refusal) = HasStopped before now q
 
 -- what the looks of a query did so far, from a first pass and query to these
-pub record HasLooked (before now : List Hold) (q r : Inquiry) : Type 0 where
+pub record HasLooked (before now : List Hold) (q r : RunningQuery) : Type 0 where
   pub reading : IsReading now r
   pub advances : Advances q.sources.items before now
   pub sources : r.sources.items ≡ q.sources.items
@@ -128,7 +128,7 @@ pub record HasLooked (before now : List Hold) (q r : Inquiry) : Type 0 where
   pub goes : Continues (state_of q.machine) (state_of r.machine)
   pub stands : Stands before now r r.refusal
 
--- the query is refused for want of memory
+-- the query is refused for lack of memory
 abbrev pub is_memory : LookFault → Bool
 is_memory (why.Source fault) = false
 is_memory (why.Missing object) = false

@@ -8,7 +8,7 @@ use Rattle.query_core.specs.Ready.{IsReady, method_of_ready}
 use Rattle.query_text.specs.Costs.{costs_in_force}
 use Rattle.query_core.specs.Driving.{Continues}
 use Rattle.query_core.specs.Machines.{method_of, state_of, MakesItsRun, IsMachineFor}
-use Rattle.query_run.specs.declared.inquiry.Inquiry.{Inquiry}
+use Rattle.query_run.specs.declared.running_query.RunningQuery.{RunningQuery}
 
 -- the query is ready, and its lists are sources that have as many objects as it counts
 pub record IsReadyFor (counts : List ℕ) (ready : Ready) : Type 0 where
@@ -21,7 +21,7 @@ opened_from first [] = []
 opened_from first (count ∷ counts) = opened first count ∷ opened_from (first + 1) counts
 
 -- the query is one that is ready, some accesses on
-pub record IsOf (ready : Ready) (q : Inquiry) : Type 0 where
+pub record IsOf (ready : Ready) (q : RunningQuery) : Type 0 where
   pub is : IsReady ready
   pub first : MachineState
   pub begun : IsBegun ready.query.expr ready.query.k ready.count (unwrap_or ready.query.room ready.count) (costs_in_force ready.query) first
@@ -30,7 +30,7 @@ pub record IsOf (ready : Ready) (q : Inquiry) : Type 0 where
   pub sources : q.sources.items ≡ ready.sources.items
 
 -- the query is one that is ready, before any access; it waits for nothing and isn't refused
-pub record IsFresh (ready : Ready) (q : Inquiry) : Type 0 where
+pub record IsFresh (ready : Ready) (q : RunningQuery) : Type 0 where
   pub is : IsReady ready
   pub machine : IsMachineFor ready q.machine
   pub run : MakesItsRun q.machine

@@ -2,7 +2,7 @@
 
 use machine_base::{Answer, CoreFault};
 use source_state::LookFault;
-use topk_base::Listed;
+use topk_base::Seq32;
 
 /// Why a query is refused.
 #[derive(Clone, Copy)]
@@ -25,4 +25,4 @@ pub enum Ended {
 }
 
 /// How queries ended, in the order of the queries.
-pub type Endings = Listed<Ended>;
+pub type Endings = Seq32<Ended>;

@@ -7,10 +7,10 @@
 #![tactic(auto)]
 
 mod ended;
-mod inquiry;
 mod run;
+mod running_query;
 
 pub use access_log::Memory;
 pub use ended::{Ended, Endings, Refusal};
-pub use inquiry::{Inquiry, let_go, list_needed, turn};
 pub use run::{run_query, run_query_by};
+pub use running_query::{RunningQuery, let_go, list_needed, turn};

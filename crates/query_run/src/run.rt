@@ -10,10 +10,10 @@ ghost use Rattle.query_run.specs.Ran.{Ran, RanSome};
 ghost use Rattle.query_run.specs.Serving.{MayServe, Leaves, ServesAll};
 ghost use Rattle.query_core.specs.Machines.{state_of};
 ghost use Rattle.query_run.specs.Looking.{IsReading, LooksOnce, LooksAhead, LooksAndAhead, HasLooked, HasStopped, wants_memory};
-ghost use Rattle.query_run.specs.Foreseeing.{ForeseesIfFar, HasForeseenBelow};
+ghost use Rattle.query_run.specs.Prefetching.{ForeseesIfFar, HasPrefetchedBelow};
 
 use super::ended::{Ended, Refusal};
-use super::inquiry::{Inquiry, is_done, list_needed};
+use super::running_query::{RunningQuery, is_done, list_needed};
 use access_log::Memory;
 use query_core::Ready;
 use source_api::FailKind;
@@ -42,11 +42,11 @@ fn wake_for<H: Fn(u32)>(open: bool, source: u32, wake: &H)
 
 /// Asks the source of a list, where it is far, for what is certain of that list, and has who serves it woken.
 #[tactic(auto, using(crate::proofs::Ahead::ahead_none))]
-fn foresee<G: Fn(u32) -> bool, H: Fn(u32)>(
+fn prefetch<G: Fn(u32) -> bool, H: Fn(u32)>(
     rt: &impl Wait,
     pool: &Pool,
     pass: &mut PoolPass,
-    query: &Inquiry,
+    query: &RunningQuery,
     list: u8,
     far: &G,
     wake: &H,
@@ -68,7 +68,7 @@ fn foresee<G: Fn(u32) -> bool, H: Fn(u32)>(
     if is_done(need) {
         return;
     }
-    let open = pool.foresee(rt, pass, source, need);
+    let open = pool.prefetch(rt, pass, source, need);
     wake_for(open, source, wake);
 }
 
@@ -77,7 +77,7 @@ fn look_ahead<G: Fn(u32) -> bool, H: Fn(u32)>(
     rt: &impl Wait,
     pool: &Pool,
     pass: &mut PoolPass,
-    query: &Inquiry,
+    query: &RunningQuery,
     far: &G,
     wake: &H,
 )
@@ -87,14 +87,14 @@ fn look_ahead<G: Fn(u32) -> bool, H: Fn(u32)>(
     requires wake { H.IsAlwaysCallable wake.now }
     ensures own { IsPassOf pool.now pass.new }
     ensures ahead { LooksAhead pass.old pass.new query.now }
-    ensures asked { HasForeseenBelow (λ source answer. G.post far.now source answer) query.now (state_of query.now.machine).log.lists (list_needed (needed query.now)) pass.old pass.new }
+    ensures asked { HasPrefetchedBelow (λ source answer. G.post far.now source answer) query.now (state_of query.now.machine).log.lists (list_needed (needed query.now)) pass.old pass.new }
 {
     let needed = list_needed(query.machine.need());
     for list in 0..query.machine.transcript().lists() {
         if list == needed {
             continue;
         }
-        foresee(rt, pool, pass, query, list, far, wake);
+        prefetch(rt, pool, pass, query, list, far, wake);
     }
 }
 
@@ -114,7 +114,7 @@ fn look_once(
     rt: &impl Wait,
     pool: &Pool,
     pass: &mut PoolPass,
-    query: &mut Inquiry,
+    query: &mut RunningQuery,
 ) -> Option<(u32, u64)>
     requires own { IsPassOf pool.now pass.old }
     requires reading { IsReading pass.old query.old }
@@ -139,7 +139,7 @@ fn look_and_wait<P, F: Fn(u32, u64, &mut P), G: Fn(u32) -> bool, H: Fn(u32)>(
     rt: &impl Wait,
     pool: &Pool,
     pass: &mut PoolPass,
-    query: &mut Inquiry,
+    query: &mut RunningQuery,
     serve: &F,
     by: &mut P,
     far: &G,
@@ -166,7 +166,7 @@ fn look_on<P, F: Fn(u32, u64, &mut P), G: Fn(u32) -> bool, H: Fn(u32)>(
     rt: &impl Wait,
     pool: &Pool,
     pass: &mut PoolPass,
-    query: &mut Inquiry,
+    query: &mut RunningQuery,
     serve: &F,
     by: &mut P,
     far: &G,
@@ -194,7 +194,7 @@ fn look_on<P, F: Fn(u32, u64, &mut P), G: Fn(u32) -> bool, H: Fn(u32)>(
     unreachable!()
 }
 
-/// Whether a refusal is for want of memory.
+/// Whether a refusal is for lack of memory.
 fn wants_memory(refusal: Option<Refusal>) -> bool
     ensures { result ≡ wants_memory refusal }
 {
@@ -205,8 +205,8 @@ fn wants_memory(refusal: Option<Refusal>) -> bool
 }
 
 /// Runs a query over the sources of a pool, through a pass of it, and may wait. It looks for what the query's machine needs next until that
-/// is there or can't be had, and ends with the answer, or with why the query is refused. Where a call of a source wanted memory while the
-/// query waited for it, this wants memory too; no more was wanted of the sources then than the query had asked for. What isn't there yet is
+/// is there or can't be had, and ends with the answer, or with why the query is refused. Where a call of a source ran out of memory while the
+/// query waited for it, this runs out of memory too; no more was wanted of the sources then than the query had asked for. What isn't there yet is
 /// served by a call of `serve`, of the source's number, how often its feeder had told before the look, and what this thread serves by; or the
 /// call waits until it was served. It may return for no reason: the query looks again. Before that what is certain is asked for at the other
 /// sources of which `far` says that they are far, and `wake` is called for each of these that hasn't it yet. A call of these that fails
@@ -240,7 +240,7 @@ pub fn run_query_by<P, F: Fn(u32, u64, &mut P), G: Fn(u32) -> bool, H: Fn(u32)>(
     ensures short { OnErr result (RanSome ready.now pass.old pass.new) }
     ensures right { IfOk result (IsRight ready.now) }
 {
-    let mut query = Inquiry::make(alloc, ready)?;
+    let mut query = RunningQuery::make(alloc, ready)?;
     look_on(rt, pool, pass, &mut query, serve, by, far, wake);
     if wants_memory(query.refusal) {
         drop(query);

@@ -61,7 +61,7 @@ pub gave_last : (calls mid now : Option (List PortCall)) (count : ℕ) (last : P
     → now ≡ with_more (last ∷ []) mid → GaveLinks count (last ∷ []) calls now
 gave_last calls mid now count last was is = is ∙ (ap (with_more (last ∷ [])) was ∙ calls_then (replicate count PortCall.Gave) (last ∷ []) calls)
 
--- however the side with the port ended where memory was wanted, it asked for links alone
+-- however the side with the port ended where memory ran out, it asked for links alone
 pub asked_some : (asked : ℕ) (calls now : Option (List PortCall)) (result : Served) → AsksForLinks asked calls now result → AsksForLinks asked calls now served.Memory
 asked_some asked calls now (served.Ended count) asks = (accepted.Ended count, asks)
 asked_some asked calls now served.PortFault asks = (accepted.PortFault, asks)

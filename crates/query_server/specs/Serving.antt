@@ -29,13 +29,13 @@ pub record Leaves {S : Type 0} (list : S → Option (List Row)) (counts : S → 
   pub catalog : now.catalog ≡ o.catalog
   pub home : AreAtHome homes now.entries
 
--- how serving at most so many links of a port ends; want of memory is free
+-- how serving at most so many links of a port ends; lack of memory is free
 abbrev pub ServesLinks : ℕ → Option (List (List ℕ)) → Option (List (List ℕ)) → ℕ → ℕ → Served → Type 0
 ServesLinks asked links links_now faults faults_now (served.Ended count) = TookAll asked links links_now faults faults_now count
 ServesLinks asked links links_now faults faults_now served.PortFault = TookSome asked links links_now faults faults_now
 ServesLinks asked links links_now faults faults_now served.Memory = ⊤
 
--- a port was asked for so many links at most, and for nothing else; where memory was wanted the side with the port ended in one of its ways
+-- a port was asked for so many links at most, and for nothing else; where memory ran out the side with the port ended in one of its ways
 abbrev pub AsksForLinks : ℕ → Option (List PortCall) → Option (List PortCall) → Served → Type 0
 AsksForLinks asked calls calls_now (served.Ended count) = GaveAll asked count calls calls_now
 AsksForLinks asked calls calls_now served.PortFault = GaveBeforeFault asked calls calls_now

@@ -143,7 +143,7 @@ fn serve_generations<W: Threads + Wait + Sync, S: Source, L: Link + Send + Drop>
     Ok(())
 }
 
-/// The side of the workers and the fetchers. It tells whether memory was wanted: then nobody takes links any more.
+/// The side of the workers and the fetchers. It tells whether memory ran out: then nobody takes links any more.
 pub(crate) fn serve_side<W: Threads + Wait + Sync, S: Source, L: Link + Send + Drop>(
     rt: &W,
     alloc: Global,

@@ -30,7 +30,7 @@ pub enum Served {
     Memory,
 }
 
-/// The side with the port: how the server ends by it. Where nobody takes links any more memory was wanted.
+/// The side with the port: how the server ends by it. Where nobody takes links any more memory ran out.
 fn accept_side<P: Port>(rt: &impl Wait, port: &mut P, queue: &LinkQueue<P::L>, conns: u64) -> Served
     ensures serves { ServesLinks conns (P.links port.old) (P.links port.new) (P.faults port.old) (P.faults port.new) result }
     ensures closed { P.closed port.new ≡ P.closed port.old }
@@ -47,7 +47,7 @@ fn accept_side<P: Port>(rt: &impl Wait, port: &mut P, queue: &LinkQueue<P::L>, c
 /// `server_conn::serve_conn` gives it over the catalog. As many workers as the settings say serve links at the same time, and beside them
 /// one fetcher a source brings what their queries need. This thread accepts the links; at most as many as there are workers wait. A worker
 /// drops a link when its connection has ended; one that fails ends its own connection alone. Every connection has ended when the call
-/// returns, unless memory was wanted. The call may wait for ever.
+/// returns, unless memory ran out. The call may wait for ever.
 ///
 /// A source that moves to another version ends a generation: no connection begins until those that were begun have ended, and then each
 /// source of a list that was open at first is asked for its size, and for nothing else, once a further link has come, the catalog gets

@@ -22,8 +22,8 @@ use Rattle.query_text.specs.Draft.{names_of, head_in, unset, priced, front_of}
 use Rattle.query_text.specs.Reached.{IsDraftOf}
 use Rattle.query_text.specs.Finish.{query_in, IsFair, IsSmall}
 use Rattle.query_text.specs.declared.draft.Draft.{Draft}
-use Rattle.query_text.specs.declared.stage.Stage.{Stage}
-use Rattle.query_text.specs.declared.stage.Stage.TheVariants as stages
+use Rattle.query_text.specs.declared.parser_state.ParserState.{ParserState}
+use Rattle.query_text.specs.declared.parser_state.ParserState.TheVariants as stages
 use Rattle.query_text.specs.declared.operator.Operator.{Operator}
 use Rattle.query_text.specs.declared.operator.Operator.TheVariants.{Min, Max, Sum, Median, Wsum}
 use Rattle.query_text.proofs.FrontLaws.{whole_at}
@@ -35,7 +35,7 @@ use Rattle.topk_base.specs.declared.TheConstants.{MAX_LISTS}
 shape_in : List (List ℕ) → Draft → SyntaxTree
 shape_in names d = shape_from (head_in names d) (option_map cost_digits d.cost) (option_map decimal d.room)
 
-shape_shown : (names : List (List ℕ)) (s : Stage) (d : Draft) (shape : SyntaxTree) → may_end s ≡ true → shape_at (front_of names s d) ≡ Some shape
+shape_shown : (names : List (List ℕ)) (s : ParserState) (d : Draft) (shape : SyntaxTree) → may_end s ≡ true → shape_at (front_of names s d) ≡ Some shape
     → shape ≡ shape_in names d
 unfolding shape_in
 shape_shown names stages.Top d shape may h = absurd (false≢true may)

@@ -13,8 +13,8 @@ use Rattle.query_text.specs.Reached.{front_text, Follows, Drafts, IsState, Reach
 use Rattle.query_text.specs.declared.course.Course.{Course}
 use Rattle.query_text.specs.declared.draft.Draft.{Draft}
 use Rattle.query_text.specs.declared.operator.Operator.{Operator}
-use Rattle.query_text.specs.declared.stage.Stage.{Stage}
-use Rattle.query_text.specs.declared.stage.Stage.TheVariants as stages
+use Rattle.query_text.specs.declared.parser_state.ParserState.{ParserState}
+use Rattle.query_text.specs.declared.parser_state.ParserState.TheVariants as stages
 use Rattle.query_text.specs.declared.fault.QueryFault.{QueryFault}
 use Rattle.query_text.specs.declared.fault.QueryFault.TheVariants as faults
 use Rattle.query_text.proofs.WordLaws.{Stops, empty_not_whole}
@@ -121,7 +121,7 @@ take_nothing [] = refl
 take_nothing (x ∷ xs) = refl
 
 -- what a test of the longest front of the rest of a line tells of the line
-pub word_told : (line : List ℕ) (at count : ℕ) (s : Stage) (inside opened whole : Bool) (rest : List ℕ) → inside ≡ opened → rest ≡ drop at line
+pub word_told : (line : List ℕ) (at count : ℕ) (s : ParserState) (inside opened whole : Bool) (rest : List ℕ) → inside ≡ opened → rest ≡ drop at line
     → IsLongest (class_at s inside) rest count → whole ≡ is_whole (class_at s inside) (take count rest)
     → IsLongest (class_at s opened) (drop at line) count × (is_whole (class_at s opened) (take count (drop at line)) ≡ whole)
 word_told line at count s inside opened whole rest is same longest told =
@@ -129,7 +129,7 @@ word_told line at count s inside opened whole rest is same longest told =
     (subst (λ o. IsLongest (class_at s o) rest count × (is_whole (class_at s o) (take count rest) ≡ whole)) is (longest, sym told))
 
 -- a whole word has a byte
-pub whole_has_byte : (s : Stage) (inside : Bool) (count : ℕ) (rest : List ℕ) → is_whole (class_at s inside) (take count rest) ≡ true → 0 < count
+pub whole_has_byte : (s : ParserState) (inside : Bool) (count : ℕ) (rest : List ℕ) → is_whole (class_at s inside) (take count rest) ≡ true → 0 < count
 whole_has_byte s inside zero rest h = absurd (false≢true (sym (empty_not_whole s inside) ∙ (ap (is_whole (class_at s inside)) (sym (take_nothing rest)) ∙ h)))
 whole_has_byte s inside (suc n) rest h = omega arith
 

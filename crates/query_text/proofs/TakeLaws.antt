@@ -24,8 +24,8 @@ use Rattle.query_text.specs.declared.draft.Draft.{Draft}
 use Rattle.query_text.specs.declared.algorithm.Algorithm.{Algorithm}
 use Rattle.query_text.specs.declared.algorithm.Algorithm.TheVariants.{Ta, Theta, Early}
 use Rattle.query_text.specs.declared.operator.Operator.{Operator}
-use Rattle.query_text.specs.declared.stage.Stage.{Stage}
-use Rattle.query_text.specs.declared.stage.Stage.TheVariants as stages
+use Rattle.query_text.specs.declared.parser_state.ParserState.{ParserState}
+use Rattle.query_text.specs.declared.parser_state.ParserState.TheVariants as stages
 use Rattle.query_text.specs.declared.fault.QueryFault.{QueryFault}
 use Rattle.query_text.specs.declared.fault.QueryFault.TheVariants as faults
 use Rattle.query_text.proofs.ListLaws.{any_same}
@@ -46,7 +46,7 @@ range_is w least most n h =
     (omega (arith, h.low, e), omega (arith, h.high, e))
 
 -- a number out of its range isn't taken
-pub misses_number : (s : Stage) (d : Draft) (w : List ℕ) (at least most : ℕ) (fault : QueryFault) → piece_at s w ≡ Piece.number least most w
+pub misses_number : (s : ParserState) (d : Draft) (w : List ℕ) (at least most : ℕ) (fault : QueryFault) → piece_at s w ≡ Piece.number least most w
     → fault ≡ faults.Number at → (is_number w ≡ true → IsInRange (Piece.number least most w) → ⊥) → Misses s d w at fault
 misses_number s d w at least most fault piece e h = subst (Misses s d w at) (sym e) (refl, subst IsOutside (sym piece) h)
 

@@ -14,8 +14,8 @@ use Rattle.query_text.specs.Front.{Front, class_of, next, reads, stage_of, frame
 use Rattle.query_text.specs.declared.algorithm.Algorithm.{Algorithm}
 use Rattle.query_text.specs.declared.operator.Operator.{Operator}
 use Rattle.query_text.specs.declared.operator.Operator.TheVariants.{Min, Max, Sum, Median, Wsum}
-use Rattle.query_text.specs.declared.stage.Stage.{Stage}
-use Rattle.query_text.specs.declared.stage.Stage.TheVariants as stages
+use Rattle.query_text.specs.declared.parser_state.ParserState.{ParserState}
+use Rattle.query_text.specs.declared.parser_state.ParserState.TheVariants as stages
 
 -- a word is in the table where it is that of an algorithm, or one of those behind
 pub algorithm_found : (w : List ℕ) (xs : List Algorithm) (ws : List (List ℕ))
@@ -136,7 +136,7 @@ whole_begins (Class.words ws) w h = any_more (bytes_eq w) (is_front w) (λ v e. 
 whole_begins Class.digits w h = or_right _ _ h
 whole_begins Class.operand w h = or_right _ _ h
 
-pub empty_not_whole : (s : Stage) (inside : Bool) → is_whole (class_at s inside) [] ≡ false
+pub empty_not_whole : (s : ParserState) (inside : Bool) → is_whole (class_at s inside) [] ≡ false
 empty_not_whole stages.Top inside = refl
 empty_not_whole stages.Count inside = refl
 empty_not_whole stages.By inside = refl

@@ -4,13 +4,13 @@ use Rattle.std.specs.Str.{bytes_eq}
 use Rattle.query_text.specs.Words.{opened_by}
 use Rattle.query_text.specs.Front.{Front, stage_of, frames_of, is_weighted}
 use Rattle.query_text.specs.declared.operator.Operator.{Operator}
-use Rattle.query_text.specs.declared.stage.Stage.{Stage}
-use Rattle.query_text.specs.declared.stage.Stage.TheVariants as stages
+use Rattle.query_text.specs.declared.parser_state.ParserState.{ParserState}
+use Rattle.query_text.specs.declared.parser_state.ParserState.TheVariants as stages
 use Rattle.query_text.specs.declared.course.Course.{Course}
 
 -- which piece comes next, and the open operators, the innermost first
 pub record Standing : Type 0 where
-  pub stage : Stage
+  pub stage : ParserState
   pub operators : List Operator
 
 -- where a course stands
@@ -26,22 +26,22 @@ abbrev pub is_open : List Operator → Bool
 is_open [] = false
 is_open (operator ∷ operators) = true
 
-abbrev pub at : Stage → List Operator → Standing
+abbrev pub at : ParserState → List Operator → Standing
 at stage operators = record { stage = stage; operators = operators }
 
 -- whether a text may end before what comes next
-abbrev pub may_end : Stage → Bool
+abbrev pub may_end : ParserState → Bool
 may_end stages.Options = true
 may_end stages.Priced = true
 may_end stages.Done = true
 may_end _ = false
 
 -- an argument of an operator comes next
-abbrev pub argument_stage : Operator → Stage
+abbrev pub argument_stage : Operator → ParserState
 argument_stage operator = if is_weighted operator then stages.Weight else stages.Operand
 
 -- behind the word of an algorithm
-abbrev pub algorithm_stage : List ℕ → Stage
+abbrev pub algorithm_stage : List ℕ → ParserState
 algorithm_stage word = if bytes_eq word (codes "theta ") then stages.Factor else (if bytes_eq word (codes "early ") then stages.Depth else stages.Options)
 
 -- behind the word of an operand
@@ -56,7 +56,7 @@ behind_operand (operator ∷ operators) true = at (argument_stage operator) (ope
 behind_operand (operator ∷ operators) false = at stages.Behind operators
 
 -- what comes next where one piece alone may follow
-abbrev pub plain_next : Stage → Stage
+abbrev pub plain_next : ParserState → ParserState
 plain_next stages.Top = stages.Count
 plain_next stages.Count = stages.By
 plain_next stages.By = stages.Operand
@@ -78,7 +78,7 @@ plain_next stages.Room = stages.Done
 plain_next stages.Done = stages.Done
 
 -- behind one more word
-abbrev pub standing_next : Stage → List Operator → List ℕ → Standing
+abbrev pub standing_next : ParserState → List Operator → List ℕ → Standing
 standing_next stages.Operand operators word = behind_word operators (opened_by word)
 standing_next stages.Behind operators word = behind_operand operators (bytes_eq word (codes ","))
 standing_next stages.Options operators word = at (if bytes_eq word (codes " cost ") then stages.Sorted else stages.Room) operators

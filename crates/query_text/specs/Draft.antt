@@ -15,8 +15,8 @@ use Rattle.query_text.specs.Front.{Front, Head, stage_of, class_of, next, shape_
 use Rattle.query_text.specs.Front as front
 use Rattle.query_text.specs.declared.frame.Frame.{Frame}
 use Rattle.query_text.specs.declared.draft.Draft.{Draft}
-use Rattle.query_text.specs.declared.stage.Stage.{Stage}
-use Rattle.query_text.specs.declared.stage.Stage.TheVariants as stages
+use Rattle.query_text.specs.declared.parser_state.ParserState.{ParserState}
+use Rattle.query_text.specs.declared.parser_state.ParserState.TheVariants as stages
 use Rattle.query_text.specs.declared.fault.QueryFault.{QueryFault}
 use Rattle.query_text.specs.declared.fault.QueryFault.TheVariants as faults
 use Rattle.topk_base.specs.declared.TheConstants.{MAX_LISTS, MAX_WEIGHT}
@@ -91,7 +91,7 @@ priced head None = Front.at_top
 priced head (Some cost) = Front.at_priced head (cost_digits cost)
 
 -- the front that a draft shows
-abbrev pub front_of : List (List ℕ) → Stage → Draft → Front
+abbrev pub front_of : List (List ℕ) → ParserState → Draft → Front
 front_of names stages.Top draft = unopened draft.frames.items Front.at_top
 front_of names stages.Count draft = unopened draft.frames.items Front.at_count
 front_of names stages.By draft = unopened draft.frames.items (Front.at_by (decimal draft.k))
@@ -119,11 +119,11 @@ pub record IsDraftPlain (draft : Draft) : Type 0 where
   pub frames : AreFramesPlain draft.frames.items
 
 -- the draft shows the front with one more word, if it showed the front at this stage
-abbrev pub GoesOn : Front → Stage → List ℕ → List (List ℕ) → Draft → Type 0
+abbrev pub GoesOn : Front → ParserState → List ℕ → List (List ℕ) → Draft → Type 0
 GoesOn f stage word names new = stage_of f ≡ stage → IsFine f → is_whole (class_of f) word ≡ true → front_of names (stage_of (next f word)) new ≡ next f word
 
 -- a draft takes a word
-pub record Takes (stage : Stage) (old new : Draft) (word : List ℕ) : Type 0 where
+pub record Takes (stage : ParserState) (old new : Draft) (word : List ℕ) : Type 0 where
   pub names : names_of new ≡ each_once_after bytes_eq (names_of old) (names_in (piece_at stage word ∷ []))
   pub few : length (names_of new) ≤ MAX_LISTS
   pub range : IsInRange (piece_at stage word)
@@ -136,7 +136,7 @@ IsOutside (Piece.number least most digits) = is_number digits ≡ true → IsInR
 IsOutside _ = ⊥
 
 -- why a draft doesn't take a word
-abbrev pub Misses : Stage → Draft → List ℕ → ℕ → QueryFault → Type 0
+abbrev pub Misses : ParserState → Draft → List ℕ → ℕ → QueryFault → Type 0
 Misses stage draft word at (faults.Number place) = (place ≡ at) × IsOutside (piece_at stage word)
 Misses stage draft word at (faults.TooManyLists place) =
     (place ≡ at) × (MAX_LISTS < length (each_once_after bytes_eq (names_of draft) (names_in (piece_at stage word ∷ []))))

@@ -9,8 +9,8 @@ use Rattle.query_text.specs.Shape.{SyntaxTree, Named, IsNamed, opening, count_pi
 use Rattle.query_text.specs.Words.{Class, opened_by, begins, is_whole, class_at}
 use Rattle.query_text.specs.declared.operator.Operator.{Operator}
 use Rattle.query_text.specs.declared.operator.Operator.TheVariants.{Wsum}
-use Rattle.query_text.specs.declared.stage.Stage.{Stage}
-use Rattle.query_text.specs.declared.stage.Stage.TheVariants as stages
+use Rattle.query_text.specs.declared.parser_state.ParserState.{ParserState}
+use Rattle.query_text.specs.declared.parser_state.ParserState.TheVariants as stages
 use Rattle.topk_base.specs.declared.TheConstants.{MAX_NUMBER, MAX_WEIGHT}
 
 -- an operator that is open: its arguments so far, and the weight that stands before the next
@@ -55,7 +55,7 @@ abbrev pub shape_from : Head → Option (List ℕ × List ℕ) → Option (List 
 shape_from head cost room = record { k = head.k; expr = head.expr; algorithm = head.algorithm; cost = cost; room = room }
 
 -- which piece comes next
-abbrev pub stage_of : Front → Stage
+abbrev pub stage_of : Front → ParserState
 stage_of Front.at_top = stages.Top
 stage_of Front.at_count = stages.Count
 stage_of (Front.at_by k) = stages.By
@@ -139,7 +139,7 @@ operand_piece word None = Piece.name word
 operand_piece word (Some operator) = Piece.fixed word
 
 -- the piece that a word is
-abbrev pub piece_at : Stage → List ℕ → Piece
+abbrev pub piece_at : ParserState → List ℕ → Piece
 piece_at stages.Count word = Piece.number 1 MAX_NUMBER word
 piece_at stages.Operand word = operand_piece word (opened_by word)
 piece_at stages.Weight word = Piece.number 0 MAX_WEIGHT word

@@ -8,7 +8,7 @@ use Rattle.query_text.specs.Course.{course_view, standing_of, is_open}
 use Rattle.query_text.specs.Draft.{names_of, front_of, IsDraftPlain, Takes, Misses}
 use Rattle.query_text.specs.declared.course.Course.{Course}
 use Rattle.query_text.specs.declared.draft.Draft.{Draft}
-use Rattle.query_text.specs.declared.stage.Stage.{Stage}
+use Rattle.query_text.specs.declared.parser_state.ParserState.{ParserState}
 use Rattle.query_text.specs.declared.fault.QueryFault.{QueryFault}
 use Rattle.query_text.specs.declared.fault.QueryFault.TheVariants as faults
 
@@ -72,7 +72,7 @@ WordFound course line at (Err place) =
     × (is_whole (class_at course.stage (is_open (course_view course).operators)) (take count (drop at line)) ≡ false)
 
 -- a word is taken into a draft, or is its first fault, or comes behind that
-abbrev pub StepTakes : Stage → Draft → Draft → Option QueryFault → List ℕ → ℕ → Option QueryFault → Type 0
+abbrev pub StepTakes : ParserState → Draft → Draft → Option QueryFault → List ℕ → ℕ → Option QueryFault → Type 0
 StepTakes stage old new (Some fault) word at now = now ≡ Some fault
 StepTakes stage old new None word at None = Takes stage old new word
 StepTakes stage old new None word at (Some fault) = Misses stage old word at fault × (fault ≡ faults.Memory → ⊥)

@@ -7,8 +7,8 @@ use Rattle.topk_base.specs.Names.{is_name}
 use Rattle.query_text.specs.Shape.{algorithm_words, opening}
 use Rattle.query_text.specs.declared.operator.Operator.{Operator}
 use Rattle.query_text.specs.declared.operator.Operator.TheVariants.{Min, Max, Sum, Median, Wsum}
-use Rattle.query_text.specs.declared.stage.Stage.{Stage}
-use Rattle.query_text.specs.declared.stage.Stage.TheVariants as stages
+use Rattle.query_text.specs.declared.parser_state.ParserState.{ParserState}
+use Rattle.query_text.specs.declared.parser_state.ParserState.TheVariants as stages
 
 -- one of these words, or a number, or a name or an operator with its parenthesis
 pub data Class : Type 0 where
@@ -47,7 +47,7 @@ is_whole Class.digits word = is_number word
 is_whole Class.operand word = is_name word || is_some (opened_by word)
 
 -- what comes next, inside an operator or outside of all
-abbrev pub class_at : Stage → Bool → Class
+abbrev pub class_at : ParserState → Bool → Class
 class_at stages.Top inside = Class.words (codes "top " ∷ [])
 class_at stages.Count inside = Class.digits
 class_at stages.By inside = Class.words (codes " by " ∷ [])

@@ -8,14 +8,14 @@ ghost use Rattle.query_text.specs.Front.{is_weighted};
 use super::fault::QueryFault;
 use super::named::{is_text, opened_by};
 use super::operator::Operator;
-use super::stage::Stage;
+use super::parser_state::ParserState;
 use std::alloc::Global;
 
 /// Where the syntax of a query line stands.
 #[derive(Drop)]
 pub struct Course {
     /// Which piece comes next.
-    pub stage: Stage,
+    pub stage: ParserState,
     /// The open operators, the innermost last.
     pub operators: Vec<Operator>,
 }
@@ -28,63 +28,68 @@ pub fn is_weighted(operator: Operator) -> bool
 }
 
 /// What comes next where an argument of an operator begins.
-fn argument_stage(operator: Operator) -> Stage
+fn argument_stage(operator: Operator) -> ParserState
     ensures { result ≡ argument_stage operator }
 {
     if is_weighted(operator) {
-        Stage::Weight
+        ParserState::Weight
     } else {
-        Stage::Operand
+        ParserState::Operand
     }
 }
 
 /// What comes next behind the word of an algorithm.
-fn algorithm_stage(word: &[u8]) -> Stage
+fn algorithm_stage(word: &[u8]) -> ParserState
     ensures { result ≡ algorithm_stage word.now }
 {
     if is_text(word, b"theta ") {
-        return Stage::Factor;
+        return ParserState::Factor;
     }
     if is_text(word, b"early ") {
-        return Stage::Depth;
+        return ParserState::Depth;
     }
-    Stage::Options
+    ParserState::Options
 }
 
 /// What comes next behind the first word of the options.
-fn option_stage(is_cost: bool) -> Stage
-    ensures { result ≡ (if is_cost then Stage.Sorted else Stage.Room) }
+fn option_stage(is_cost: bool) -> ParserState
+    ensures { result ≡ (if is_cost then ParserState.Sorted else ParserState.Room) }
 {
-    if is_cost { Stage::Sorted } else { Stage::Room }
+    if is_cost {
+        ParserState::Sorted
+    } else {
+        ParserState::Room
+    }
 }
 
 /// What comes next where one piece alone may follow.
-fn plain_next(stage: Stage) -> Stage
+fn plain_next(stage: ParserState) -> ParserState
     ensures { result ≡ plain_next stage }
 {
     match stage {
-        Stage::Top => Stage::Count,
-        Stage::Count => Stage::By,
-        Stage::By | Stage::Times | Stage::Operand => Stage::Operand,
-        Stage::Behind | Stage::Algorithm | Stage::Under | Stage::Depth => Stage::Options,
-        Stage::Weight => Stage::Times,
-        Stage::Factor => Stage::Over,
-        Stage::Over => Stage::Under,
-        Stage::Options | Stage::Priced => Stage::Room,
-        Stage::Sorted => Stage::Between,
-        Stage::Between => Stage::Random,
-        Stage::Random => Stage::Priced,
-        Stage::Room | Stage::Done => Stage::Done,
+        ParserState::Top => ParserState::Count,
+        ParserState::Count => ParserState::By,
+        ParserState::By | ParserState::Times | ParserState::Operand => ParserState::Operand,
+        ParserState::Behind | ParserState::Algorithm | ParserState::Under | ParserState::Depth =>
+            ParserState::Options,
+        ParserState::Weight => ParserState::Times,
+        ParserState::Factor => ParserState::Over,
+        ParserState::Over => ParserState::Under,
+        ParserState::Options | ParserState::Priced => ParserState::Room,
+        ParserState::Sorted => ParserState::Between,
+        ParserState::Between => ParserState::Random,
+        ParserState::Random => ParserState::Priced,
+        ParserState::Room | ParserState::Done => ParserState::Done,
     }
 }
 
 impl Course {
     /// At the front of a line. Takes no memory.
     pub fn new(alloc: Global) -> Course
-        ensures { course_view result ≡ at Stage.Top [] }
+        ensures { course_view result ≡ at ParserState.Top [] }
     {
         Course {
-            stage: Stage::Top,
+            stage: ParserState::Top,
             operators: Vec::new(alloc),
         }
     }
@@ -104,16 +109,16 @@ impl Course {
         ensures err { IfErr result (λ fault. fault ≡ QueryFault.Memory) }
     {
         match self.stage {
-            Stage::Operand => self.leave_word(word),
-            Stage::Behind => {
+            ParserState::Operand => self.leave_word(word),
+            ParserState::Behind => {
                 self.leave_operand(is_text(word, b","));
                 Ok(())
             }
-            Stage::Algorithm => {
+            ParserState::Algorithm => {
                 self.stage = algorithm_stage(word);
                 Ok(())
             }
-            Stage::Options => {
+            ParserState::Options => {
                 self.stage = option_stage(is_text(word, b" cost "));
                 Ok(())
             }
@@ -131,7 +136,7 @@ impl Course {
         ensures err { IfErr result (λ fault. fault ≡ QueryFault.Memory) }
     {
         let Some(operator) = opened_by(word) else {
-            self.stage = Stage::Behind;
+            self.stage = ParserState::Behind;
             return Ok(());
         };
         let Ok(()) = self.operators.push(operator) else {
@@ -146,14 +151,14 @@ impl Course {
         ensures { course_view self.new ≡ behind_operand (course_view self.old).operators comma }
     {
         let Some(operator) = self.operators.last().copied() else {
-            self.stage = Stage::Algorithm;
+            self.stage = ParserState::Algorithm;
             return;
         };
         if comma {
             self.stage = argument_stage(operator);
         } else {
             let _ = self.operators.pop();
-            self.stage = Stage::Behind;
+            self.stage = ParserState::Behind;
         }
     }
 }

@@ -8,7 +8,7 @@ use super::algorithm::Algorithm;
 use super::fault::QueryFault;
 use super::frame::{Frame, push};
 use super::named::{algorithm_of, count_within, is_text, list_of, number_within, opened_by};
-use super::stage::Stage;
+use super::parser_state::ParserState;
 use monotone_fn::{Costs, Node};
 use std::alloc::Global;
 use std::mem;
@@ -61,7 +61,7 @@ impl Draft {
     pub(crate) fn take(
         &mut self,
         alloc: Global,
-        stage: Stage,
+        stage: ParserState,
         word: &[u8],
         at: u32,
     ) -> Result<(), QueryFault>
@@ -70,35 +70,35 @@ impl Draft {
         ensures missed { IfErr result (Misses stage self.old word.now at) }
     {
         match stage {
-            Stage::Count => self.take_k(word, at),
-            Stage::Operand => self.take_operand(alloc, word, at),
-            Stage::Behind => self.take_behind(word),
-            Stage::Weight => self.take_weight(word, at),
-            Stage::Times => {
+            ParserState::Count => self.take_k(word, at),
+            ParserState::Operand => self.take_operand(alloc, word, at),
+            ParserState::Behind => self.take_behind(word),
+            ParserState::Weight => self.take_weight(word, at),
+            ParserState::Times => {
                 self.take_times();
                 Ok(())
             }
-            Stage::Algorithm => self.take_algorithm(word),
-            Stage::Factor => self.take_factor(word, at),
-            Stage::Under => self.take_under(word, at),
-            Stage::Depth => self.take_depth(word, at),
-            Stage::Sorted => self.take_sorted(word, at),
-            Stage::Random => self.take_random(word, at),
-            Stage::Room => self.take_room(word, at),
-            Stage::Top
-            | Stage::By
-            | Stage::Over
-            | Stage::Options
-            | Stage::Between
-            | Stage::Priced
-            | Stage::Done => Ok(()),
+            ParserState::Algorithm => self.take_algorithm(word),
+            ParserState::Factor => self.take_factor(word, at),
+            ParserState::Under => self.take_under(word, at),
+            ParserState::Depth => self.take_depth(word, at),
+            ParserState::Sorted => self.take_sorted(word, at),
+            ParserState::Random => self.take_random(word, at),
+            ParserState::Room => self.take_room(word, at),
+            ParserState::Top
+            | ParserState::By
+            | ParserState::Over
+            | ParserState::Options
+            | ParserState::Between
+            | ParserState::Priced
+            | ParserState::Done => Ok(()),
         }
     }
 
     fn take_k(&mut self, word: &[u8], at: u32) -> Result<(), QueryFault>
         requires { length (names_of self.old) ≤ MAX_LISTS }
-        ensures taken { OnOk result (Takes Stage.Count self.old self.new word.now) }
-        ensures missed { IfErr result (Misses Stage.Count self.old word.now at) }
+        ensures taken { OnOk result (Takes ParserState.Count self.old self.new word.now) }
+        ensures missed { IfErr result (Misses ParserState.Count self.old word.now at) }
     {
         self.k = count_within(word, at)?;
         Ok(())
@@ -106,8 +106,8 @@ impl Draft {
 
     fn take_weight(&mut self, word: &[u8], at: u32) -> Result<(), QueryFault>
         requires { length (names_of self.old) ≤ MAX_LISTS }
-        ensures taken { OnOk result (Takes Stage.Weight self.old self.new word.now) }
-        ensures missed { IfErr result (Misses Stage.Weight self.old word.now at) }
+        ensures taken { OnOk result (Takes ParserState.Weight self.old self.new word.now) }
+        ensures missed { IfErr result (Misses ParserState.Weight self.old word.now at) }
     {
         self.weight = number_within(word, 0, MAX_WEIGHT, at)?;
         Ok(())
@@ -115,8 +115,8 @@ impl Draft {
 
     fn take_sorted(&mut self, word: &[u8], at: u32) -> Result<(), QueryFault>
         requires { length (names_of self.old) ≤ MAX_LISTS }
-        ensures taken { OnOk result (Takes Stage.Sorted self.old self.new word.now) }
-        ensures missed { IfErr result (Misses Stage.Sorted self.old word.now at) }
+        ensures taken { OnOk result (Takes ParserState.Sorted self.old self.new word.now) }
+        ensures missed { IfErr result (Misses ParserState.Sorted self.old word.now at) }
     {
         self.sorted = count_within(word, at)?;
         Ok(())
@@ -124,8 +124,8 @@ impl Draft {
 
     fn take_random(&mut self, word: &[u8], at: u32) -> Result<(), QueryFault>
         requires { length (names_of self.old) ≤ MAX_LISTS }
-        ensures taken { OnOk result (Takes Stage.Random self.old self.new word.now) }
-        ensures missed { IfErr result (Misses Stage.Random self.old word.now at) }
+        ensures taken { OnOk result (Takes ParserState.Random self.old self.new word.now) }
+        ensures missed { IfErr result (Misses ParserState.Random self.old word.now at) }
     {
         self.cost = Some(Costs {
             sorted: self.sorted,
@@ -136,8 +136,8 @@ impl Draft {
 
     fn take_room(&mut self, word: &[u8], at: u32) -> Result<(), QueryFault>
         requires { length (names_of self.old) ≤ MAX_LISTS }
-        ensures taken { OnOk result (Takes Stage.Room self.old self.new word.now) }
-        ensures missed { IfErr result (Misses Stage.Room self.old word.now at) }
+        ensures taken { OnOk result (Takes ParserState.Room self.old self.new word.now) }
+        ensures missed { IfErr result (Misses ParserState.Room self.old word.now at) }
     {
         self.room = Some(count_within(word, at)?);
         Ok(())
@@ -146,7 +146,7 @@ impl Draft {
     /// Takes the word of an algorithm. One whose numbers are still to come stands as `ta` until then.
     fn take_algorithm(&mut self, word: &[u8]) -> Result<(), QueryFault>
         requires { length (names_of self.old) ≤ MAX_LISTS }
-        ensures taken { OnOk result (Takes Stage.Algorithm self.old self.new word.now) }
+        ensures taken { OnOk result (Takes ParserState.Algorithm self.old self.new word.now) }
         ensures missed { IfErr result (λ fault. fault ≡ QueryFault.Memory) }
     {
         self.algorithm = algorithm_of(word).unwrap_or(Algorithm::Ta);
@@ -157,8 +157,8 @@ impl Draft {
 
     fn take_factor(&mut self, word: &[u8], at: u32) -> Result<(), QueryFault>
         requires { length (names_of self.old) ≤ MAX_LISTS }
-        ensures taken { OnOk result (Takes Stage.Factor self.old self.new word.now) }
-        ensures missed { IfErr result (Misses Stage.Factor self.old word.now at) }
+        ensures taken { OnOk result (Takes ParserState.Factor self.old self.new word.now) }
+        ensures missed { IfErr result (Misses ParserState.Factor self.old word.now at) }
     {
         self.over = count_within(word, at)?;
         Ok(())
@@ -166,8 +166,8 @@ impl Draft {
 
     fn take_under(&mut self, word: &[u8], at: u32) -> Result<(), QueryFault>
         requires { length (names_of self.old) ≤ MAX_LISTS }
-        ensures taken { OnOk result (Takes Stage.Under self.old self.new word.now) }
-        ensures missed { IfErr result (Misses Stage.Under self.old word.now at) }
+        ensures taken { OnOk result (Takes ParserState.Under self.old self.new word.now) }
+        ensures missed { IfErr result (Misses ParserState.Under self.old word.now at) }
     {
         self.algorithm = Algorithm::Theta {
             p: self.over,
@@ -180,8 +180,8 @@ impl Draft {
 
     fn take_depth(&mut self, word: &[u8], at: u32) -> Result<(), QueryFault>
         requires { length (names_of self.old) ≤ MAX_LISTS }
-        ensures taken { OnOk result (Takes Stage.Depth self.old self.new word.now) }
-        ensures missed { IfErr result (Misses Stage.Depth self.old word.now at) }
+        ensures taken { OnOk result (Takes ParserState.Depth self.old self.new word.now) }
+        ensures missed { IfErr result (Misses ParserState.Depth self.old word.now at) }
     {
         self.algorithm = Algorithm::Early {
             depth: count_within(word, at)?,
@@ -193,8 +193,8 @@ impl Draft {
 
     fn take_operand(&mut self, alloc: Global, word: &[u8], at: u32) -> Result<(), QueryFault>
         requires { length (names_of self.old) ≤ MAX_LISTS }
-        ensures taken { OnOk result (Takes Stage.Operand self.old self.new word.now) }
-        ensures missed { IfErr result (Misses Stage.Operand self.old word.now at) }
+        ensures taken { OnOk result (Takes ParserState.Operand self.old self.new word.now) }
+        ensures missed { IfErr result (Misses ParserState.Operand self.old word.now at) }
     {
         let Some(operator) = opened_by(word) else {
             return self.take_name(alloc, word, at);
@@ -204,7 +204,7 @@ impl Draft {
 
     fn take_behind(&mut self, word: &[u8]) -> Result<(), QueryFault>
         requires { length (names_of self.old) ≤ MAX_LISTS }
-        ensures taken { OnOk result (Takes Stage.Behind self.old self.new word.now) }
+        ensures taken { OnOk result (Takes ParserState.Behind self.old self.new word.now) }
         ensures missed { IfErr result (λ fault. fault ≡ QueryFault.Memory) }
     {
         let Some(frame) = self.frames.pop() else {
@@ -224,7 +224,7 @@ impl Draft {
 
     fn take_times(&mut self)
         requires { length (names_of self.old) ≤ MAX_LISTS }
-        ensures { (word : List ℕ) → Takes Stage.Times self.old self.new word }
+        ensures { (word : List ℕ) → Takes ParserState.Times self.old self.new word }
     {
         let Some(frame) = self.frames.pop() else {
             return;
@@ -238,8 +238,8 @@ impl Draft {
     fn take_name(&mut self, alloc: Global, word: &[u8], at: u32) -> Result<(), QueryFault>
         requires few { length (names_of self.old) ≤ MAX_LISTS }
         requires name { opened_by word.now ≡ None }
-        ensures taken { OnOk result (Takes Stage.Operand self.old self.new word.now) }
-        ensures missed { IfErr result (Misses Stage.Operand self.old word.now at) }
+        ensures taken { OnOk result (Takes ParserState.Operand self.old self.new word.now) }
+        ensures missed { IfErr result (Misses ParserState.Operand self.old word.now at) }
     {
         let list = list_of(alloc, &mut self.names, word, at)?;
         self.set_operand(Node::List(list));

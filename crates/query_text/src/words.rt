@@ -8,7 +8,7 @@ ghost use Rattle.query_text.specs.Words.{Class, begins, is_whole, class_at, IsLo
 
 use super::algorithm::Algorithm;
 use super::named::{algorithm_of, is_text, opened_by};
-use super::stage::Stage;
+use super::parser_state::ParserState;
 use topk_base::is_name_byte;
 
 /// How many bytes a word and a text have in common at their fronts.
@@ -77,35 +77,35 @@ fn operand_len(text: &[u8]) -> usize
 }
 
 /// How many bytes of a text begin a word that may come at a stage.
-pub fn longest(stage: Stage, inside: bool, text: &[u8]) -> usize
+pub fn longest(stage: ParserState, inside: bool, text: &[u8]) -> usize
     ensures { IsLongest (class_at stage inside) text.now result }
 {
     match stage {
-        Stage::Top => common(b"top ", text),
-        Stage::By => common(b" by ", text),
-        Stage::Operand => operand_len(text),
-        Stage::Behind => behind_len(inside, text),
-        Stage::Times => common(b"*", text),
-        Stage::Over => common(b"/", text),
-        Stage::Algorithm => algorithm_len(text),
-        Stage::Options => common(b" cost ", text).max(common(b" room ", text)),
-        Stage::Between => common(b" ", text),
-        Stage::Priced => common(b" room ", text),
-        Stage::Count
-        | Stage::Weight
-        | Stage::Factor
-        | Stage::Under
-        | Stage::Depth
-        | Stage::Sorted
-        | Stage::Random
-        | Stage::Room => number_len(text),
-        Stage::Done => 0,
+        ParserState::Top => common(b"top ", text),
+        ParserState::By => common(b" by ", text),
+        ParserState::Operand => operand_len(text),
+        ParserState::Behind => behind_len(inside, text),
+        ParserState::Times => common(b"*", text),
+        ParserState::Over => common(b"/", text),
+        ParserState::Algorithm => algorithm_len(text),
+        ParserState::Options => common(b" cost ", text).max(common(b" room ", text)),
+        ParserState::Between => common(b" ", text),
+        ParserState::Priced => common(b" room ", text),
+        ParserState::Count
+        | ParserState::Weight
+        | ParserState::Factor
+        | ParserState::Under
+        | ParserState::Depth
+        | ParserState::Sorted
+        | ParserState::Random
+        | ParserState::Room => number_len(text),
+        ParserState::Done => 0,
     }
 }
 
 /// How many bytes of a text begin the word of an algorithm.
 fn algorithm_len(text: &[u8]) -> usize
-    ensures { IsLongest (class_at Stage.Algorithm false) text.now result }
+    ensures { IsLongest (class_at ParserState.Algorithm false) text.now result }
 {
     let threshold = common(Algorithm::Ta.word(), text);
     let without_random = common(Algorithm::Nra.word(), text);
@@ -118,7 +118,7 @@ fn algorithm_len(text: &[u8]) -> usize
 
 /// How many bytes of a text begin what may stand behind an operand.
 fn behind_len(inside: bool, text: &[u8]) -> usize
-    ensures { IsLongest (class_at Stage.Behind inside) text.now result }
+    ensures { IsLongest (class_at ParserState.Behind inside) text.now result }
 {
     if inside {
         common(b",", text).max(common(b")", text))
@@ -128,43 +128,43 @@ fn behind_len(inside: bool, text: &[u8]) -> usize
 }
 
 /// Whether what begins a word that may come at a stage is the whole word.
-pub fn is_whole(stage: Stage, inside: bool, word: &[u8]) -> bool
+pub fn is_whole(stage: ParserState, inside: bool, word: &[u8]) -> bool
     requires { 0 < length word.now → begins (class_at stage inside) word.now ≡ true }
     ensures { result ≡ is_whole (class_at stage inside) word.now }
 {
     match stage {
-        Stage::Top => is_text(word, b"top "),
-        Stage::By => is_text(word, b" by "),
-        Stage::Behind => is_whole_behind(inside, word),
-        Stage::Times => is_text(word, b"*"),
-        Stage::Over => is_text(word, b"/"),
-        Stage::Algorithm => is_whole_algorithm(word),
-        Stage::Options => is_text(word, b" cost ") || is_text(word, b" room "),
-        Stage::Between => is_text(word, b" "),
-        Stage::Priced => is_text(word, b" room "),
-        Stage::Operand
-        | Stage::Count
-        | Stage::Weight
-        | Stage::Factor
-        | Stage::Under
-        | Stage::Depth
-        | Stage::Sorted
-        | Stage::Random
-        | Stage::Room => !word.is_empty(),
-        Stage::Done => false,
+        ParserState::Top => is_text(word, b"top "),
+        ParserState::By => is_text(word, b" by "),
+        ParserState::Behind => is_whole_behind(inside, word),
+        ParserState::Times => is_text(word, b"*"),
+        ParserState::Over => is_text(word, b"/"),
+        ParserState::Algorithm => is_whole_algorithm(word),
+        ParserState::Options => is_text(word, b" cost ") || is_text(word, b" room "),
+        ParserState::Between => is_text(word, b" "),
+        ParserState::Priced => is_text(word, b" room "),
+        ParserState::Operand
+        | ParserState::Count
+        | ParserState::Weight
+        | ParserState::Factor
+        | ParserState::Under
+        | ParserState::Depth
+        | ParserState::Sorted
+        | ParserState::Random
+        | ParserState::Room => !word.is_empty(),
+        ParserState::Done => false,
     }
 }
 
 /// Whether it is the whole word of an algorithm.
 fn is_whole_algorithm(word: &[u8]) -> bool
-    ensures { result ≡ is_whole (class_at Stage.Algorithm false) word.now }
+    ensures { result ≡ is_whole (class_at ParserState.Algorithm false) word.now }
 {
     algorithm_of(word).is_some() || is_text(word, b"theta ") || is_text(word, b"early ")
 }
 
 /// Whether what begins a word that may stand behind an operand is the whole word.
 fn is_whole_behind(inside: bool, word: &[u8]) -> bool
-    ensures { result ≡ is_whole (class_at Stage.Behind inside) word.now }
+    ensures { result ≡ is_whole (class_at ParserState.Behind inside) word.now }
 {
     if inside {
         is_text(word, b",") || is_text(word, b")")

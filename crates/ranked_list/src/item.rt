@@ -1,6 +1,6 @@
 //! Objects with bounds on their aggregates.
 
-use topk_base::Listed;
+use topk_base::Seq32;
 
 /// An object with a lower and an upper bound of its aggregate.
 #[derive(Clone, Copy, Debug, PartialEq, Eq)]
@@ -11,4 +11,4 @@ pub struct Item {
 }
 
 /// Items in order.
-pub type Items = Listed<Item>;
+pub type Items = Seq32<Item>;

@@ -1,6 +1,6 @@
 //! One row of a ranked list, and rows as they come.
 
-use topk_base::Listed;
+use topk_base::Seq32;
 
 /// An object and its grade in one list.
 #[derive(Clone, Copy, Debug, PartialEq, Eq)]
@@ -10,4 +10,4 @@ pub struct Row {
 }
 
 /// The rows of one page, in order.
-pub type PageRows = Listed<Row>;
+pub type PageRows = Seq32<Row>;

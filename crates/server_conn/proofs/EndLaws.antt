@@ -103,18 +103,21 @@ unheard view visit held faults mid fault why turn is reads counts later same_hel
     (subst (λ (o : Option Refusal). IsRefusedAs {A = LineSaid} o visit.before visit.now (Err why)) (sym is) (refl, same)) sends
 
 -- a reply that is sent is that of its answer
-pub refusal_sent : (held held_now : Option (List ℕ)) (faults faults_now : ℕ) (is_head : Bool) (why : Refusal) (end : ConnEnd)
+pub refusal_sent : (held held_now : Option (List ℕ)) (faults faults_now : ℕ) (is_head : Bool) (why : Refusal) (end : ConnEnd) (turn : Turn)
+    → turn ≡ record { end = end; moved = false }
     → Sends held held_now faults faults_now (status_of why) (reply_text (status_of why) Text (body_of is_head why)) end
-    → SendsAnswer is_head (Err why) held held_now faults faults_now (record { end = end; moved = false })
-refusal_sent held held_now faults faults_now is_head why end sends = record { sends = sends; moved = refl }
+    → SendsAnswer is_head (Err why) held held_now faults faults_now turn
+refusal_sent held held_now faults faults_now is_head why end turn is sends =
+    subst (λ (t : Turn). SendsAnswer is_head (Err why) held held_now faults faults_now t) (sym is) (record { sends = sends; moved = refl })
 
-pub told_sent : (held held_now : Option (List ℕ)) (faults faults_now : ℕ) (body : List ℕ) (is_head : Bool) (told : LineSaid) (end : ConnEnd) → body ≡ told.text
-    → Sends held held_now faults faults_now 200 (reply_text 200 Text (Some body)) end
-    → SendsAnswer is_head (Ok told) held held_now faults faults_now (record { end = end; moved = told.moved })
-told_sent held held_now faults faults_now body is_head told end is sends = record {
-  sends = subst (λ (b : List ℕ). Sends held held_now faults faults_now 200 (reply_text 200 Text (Some b)) end) is sends;
-  moved = refl;
-}
+pub told_sent : (held held_now : Option (List ℕ)) (faults faults_now : ℕ) (body : List ℕ) (is_head : Bool) (told : LineSaid) (end : ConnEnd) (turn : Turn)
+    → turn ≡ record { end = end; moved = told.moved } → body ≡ told.text → Sends held held_now faults faults_now 200 (reply_text 200 Text (Some body)) end
+    → SendsAnswer is_head (Ok told) held held_now faults faults_now turn
+told_sent held held_now faults faults_now body is_head told end turn is same sends =
+    subst (λ (t : Turn). SendsAnswer is_head (Ok told) held held_now faults faults_now t) (sym is) (record {
+      sends = subst (λ (b : List ℕ). Sends held held_now faults faults_now 200 (reply_text 200 Text (Some b)) end) same sends;
+      moved = refl;
+    })
 
 -- the same by an equal test
 pub by_test : (held held_now : Option (List ℕ)) (faults faults_now : ℕ) (is_head test : Bool) (answer : Result LineSaid Refusal) (turn : Turn) → is_head ≡ test

@@ -11,7 +11,7 @@ use Rattle.query_core.specs.declared.ready.Ready.{Ready as ReadyQuery}
 use Rattle.query_admission.specs.Admission.{IsAdmitted, Admits}
 use Rattle.query_admission.specs.declared.admitted.Admitted.{Admitted}
 use Rattle.query_admission.specs.declared.admitted.Admitted.TheVariants.{Ready, Refused}
-use Rattle.query_admission.specs.declared.lists.Listed.{Listed}
+use Rattle.query_admission.specs.declared.lists.ListInfo.{ListInfo}
 use Rattle.query_admission.proofs.Positions.{nothing}
 use Rattle.query_admission.proofs.ReadyLists.{admitted_states}
 use Rattle.query_run.specs.Advancing.{IsSourceIn, HasSourcesIn}
@@ -39,7 +39,7 @@ opening_past entries place past =
     get_or_past (map opening_of entries) place Closed (omega (arith, past, long))
 
 -- the list of a name that the catalog has, by its entry and what became of its source
-pub list_found : (catalog : List Entry) (openings : List Opening) (name : List ℕ) (place : ℕ) (from : Entry) (opening : Opening) (l : Listed)
+pub list_found : (catalog : List Entry) (openings : List Opening) (name : List ℕ) (place : ℕ) (from : Entry) (opening : Opening) (l : ListInfo)
     → entry_named catalog name ≡ Some place → slice_get catalog place ≡ Some from → opening ≡ opening_at openings place → l ≡ said_of from opening
     → Some l ≡ option_map (listed_at catalog openings) (entry_named catalog name)
 list_found catalog openings name place from opening l named read became said =
@@ -49,17 +49,17 @@ list_found catalog openings name place from opening l named read became said =
 
 module _ (holds : List Hold) (o : Openings) (are : AreEntriesOf o.catalog o.entries) (there : All (IsThere holds) o.entries) where
   -- a list of an entry that states no more than a list may have is that of a source that is there
-  entry_there : (n : ℕ) (entry : OpenedEntry) (from : Entry) (l : Listed) → n ≤ MAX_OBJECTS → IsSized entry → IsThere holds entry
+  entry_there : (n : ℕ) (entry : OpenedEntry) (from : Entry) (l : ListInfo) → n ≤ MAX_OBJECTS → IsSized entry → IsThere holds entry
       → said_of from (opening_of entry) ≡ l → l.size ≡ Some n → IsSourceIn holds n l.source
   entry_there n (Opened count source version) from l small sized is said size =
-      let same : count ≡ n = same_Some count n (ap (λ (k : Listed). k.size) said ∙ size) in
-      subst (IsSourceIn holds n) (ap (λ (k : Listed). k.source) said) (subst (λ m. IsSourceIn holds m source) same is)
-  entry_there n NotOpened from l small sized is said size = absurd (none_some (ap (λ (k : Listed). k.size) said ∙ size))
+      let same : count ≡ n = same_Some count n (ap (λ (k : ListInfo). k.size) said ∙ size) in
+      subst (IsSourceIn holds n) (ap (λ (k : ListInfo). k.source) said) (subst (λ m. IsSourceIn holds m source) same is)
+  entry_there n NotOpened from l small sized is said size = absurd (none_some (ap (λ (k : ListInfo). k.size) said ∙ size))
   entry_there n (TooLarge count) from l small sized is said size =
-      let same : count ≡ n = same_Some count n (ap (λ (k : Listed). k.size) said ∙ size) in
+      let same : count ≡ n = same_Some count n (ap (λ (k : ListInfo). k.size) said ∙ size) in
       absurd (omega (arith, sized, same, small))
 
-  placed_there : (n place : ℕ) (l : Listed) → n ≤ MAX_OBJECTS → listed_at o.catalog (map opening_of o.entries) place ≡ l → l.size ≡ Some n
+  placed_there : (n place : ℕ) (l : ListInfo) → n ≤ MAX_OBJECTS → listed_at o.catalog (map opening_of o.entries) place ≡ l → l.size ≡ Some n
       → IsSourceIn holds n l.source
   placed_there n place l small said size = elim (cases_lt place (length o.entries)) [
     | inl within ↦
@@ -68,10 +68,10 @@ module _ (holds : List Hold) (o : Openings) (are : AreEntriesOf o.catalog o.entr
         (All-get_or (IsThere holds) o.entries place NotOpened within there) (ap (said_of from) (sym (opening_is o.entries place within)) ∙ said) size
     | inr past ↦
         let from = entry_at o.catalog place in
-        absurd (none_some (ap (λ (k : Listed). k.size) (ap (said_of from) (sym (opening_past o.entries place past)) ∙ said) ∙ size))
+        absurd (none_some (ap (λ (k : ListInfo). k.size) (ap (said_of from) (sym (opening_past o.entries place past)) ∙ said) ∙ size))
   ]
 
-  named_there : (n : ℕ) (name : List ℕ) (l : Listed) → n ≤ MAX_OBJECTS
+  named_there : (n : ℕ) (name : List ℕ) (l : ListInfo) → n ≤ MAX_OBJECTS
       → option_map (listed_at o.catalog (map opening_of o.entries)) (entry_named o.catalog name) ≡ Some l → l.size ≡ Some n → IsSourceIn holds n l.source
   named_there n name l small e size = at (entry_named o.catalog name) e
     where
@@ -79,7 +79,7 @@ module _ (holds : List Hold) (o : Openings) (are : AreEntriesOf o.catalog o.entr
       at None e = absurd cc
       at (Some place) e = placed_there n place l small (same_Some (listed_at o.catalog (map opening_of o.entries) place) l e) size
 
-  all_there : (n : ℕ) (names : List (List ℕ)) (ls : List Listed) → n ≤ MAX_OBJECTS → map (view_in o).listed names ≡ map Some ls
+  all_there : (n : ℕ) (names : List (List ℕ)) (ls : List ListInfo) → n ≤ MAX_OBJECTS → map (view_in o).listed names ≡ map Some ls
       → ((place : ℕ) → place < length ls → (slice_index_or ls place nothing).size ≡ Some n) → AllByRecursion (IsSourceIn holds n) (map (λ l. l.source) ls)
   all_there n [] [] small e sizes = tt
   all_there n [] (l ∷ ls) small e sizes = absurd cc
@@ -92,7 +92,7 @@ module _ (holds : List Hold) (o : Openings) (are : AreEntriesOf o.catalog o.entr
   admitted_there : (number : ℕ) (bytes : List ℕ) (ready : ReadyQuery) → IsAdmitted (line_over (view_in o) number bytes) ready → HasSourcesIn holds ready
   admitted_there number bytes ready admitted = record {
     each = subst (All (IsSourceIn holds ready.count)) admitted.sources
-        (All-from_recursion (IsSourceIn holds ready.count) (map (λ (l : Listed). l.source) admitted.lists)
+        (All-from_recursion (IsSourceIn holds ready.count) (map (λ (l : ListInfo). l.source) admitted.lists)
         (all_there ready.count ready.query.names admitted.lists admitted.sound.counted admitted.listed (admitted_states (line_over (view_in o) number bytes) ready admitted)));
   }
 

@@ -25,11 +25,11 @@ line_at (Err why) = Err why
 abbrev pub line_in : List ℕ → List ℕ → Result (List ℕ) Refusal
 line_in method target = line_at (routed method target)
 
--- what is answered on the route is its query line; want of memory is free
+-- what is answered on the route is its query line; lack of memory is free
 abbrev pub AsksAt : Result (List ℕ) Refusal → Result (List ℕ) Refusal → Type 0
 AsksAt at (Err NoMemory) = IsOk at
 AsksAt at answer = answer ≡ line_at at
 
--- what is answered to a head is its query line, or why it is refused; want of memory is free where it is on the route
+-- what is answered to a head is its query line, or why it is refused; lack of memory is free where it is on the route
 abbrev pub AsksFor : List ℕ → List ℕ → Result (List ℕ) Refusal → Type 0
 AsksFor method target answer = AsksAt (routed method target) answer

@@ -42,7 +42,7 @@ abbrev pub TellsAsked : View → Result (List ℕ) Refusal → List Hold → Lis
 TellsAsked view (Ok line) before now answer = Tells view line before now answer
 TellsAsked view (Err why) before now answer = (answer ≡ Err why) × (now ≡ before)
 
--- how a request with this method and this target is answered; want of memory is free where it is on the route
+-- how a request with this method and this target is answered; lack of memory is free where it is on the route
 abbrev pub Serves : View → List ℕ → List ℕ → List Hold → List Hold → Result LineSaid Refusal → Type 0
 Serves view method target before now (Err NoMemory) = IsOk (routed method target)
 Serves view method target before now answer = TellsAsked view (line_in method target) before now answer

@@ -30,7 +30,7 @@ pub(crate) struct ToldLine {
     pub(crate) moved: bool,
 }
 
-/// Tells what becomes of a query line, or wants memory.
+/// Tells what becomes of a query line, or runs out of memory.
 pub(crate) fn tell_line(
     rt: &impl Wait,
     alloc: Global,

@@ -9,7 +9,7 @@ ghost use Rattle.source_pool.specs.declared.hold.Hold.{Hold};
 
 use catalog_open::{Opening, said_of};
 use catalog_text::Catalog;
-use query_admission::{Admitted, Listed, Lists, Memory, admit};
+use query_admission::{Admitted, ListInfo, Lists, Memory, admit};
 use std::alloc::Global;
 use std::marker::Model;
 
@@ -133,7 +133,7 @@ impl Lists for Opened {
 
     ghost view = { λ opened. view_in opened };
 
-    fn find(&self, name: &[u8]) -> Option<Listed> {
+    fn find(&self, name: &[u8]) -> Option<ListInfo> {
         let place = self.catalog.find(name)?;
         let entry = self.catalog.get(place)?;
         Some(said_of(entry, opening_at(&self.entries, place)))

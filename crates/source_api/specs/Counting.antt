@@ -14,7 +14,7 @@ raised count by = min (count + by) (2 ^ 64 - 1)
 abbrev pub no_counts : Counts
 no_counts = record { faults = 0; garbles = 0; moves = 0; rows_given = 0; grades_given = 0 }
 
--- one more call that ended so; want of memory isn't counted
+-- one more call that ended so; lack of memory isn't counted
 abbrev pub troubled : Trouble → Counts → Counts
 troubled (Fail Failed) c = record c { faults = counted c.faults }
 troubled (Fail Garbled) c = record c { garbles = counted c.garbles }
@@ -47,14 +47,14 @@ pub record NoneFell (before now : Counts) : Type 0 where
   pub rows_given : before.rows_given ≤ now.rows_given
   pub grades_given : before.grades_given ≤ now.grades_given
 
--- the count that stands behind a call that ended so went up, or stands at its last value; want of memory needs none
+-- the count that stands behind a call that ended so went up, or stands at its last value; lack of memory needs none
 abbrev pub TroubleHasCause : Counts → Counts → Trouble → Type 0
 TroubleHasCause before now (Fail Failed) = Rose before.faults now.faults
 TroubleHasCause before now (Fail Garbled) = Rose before.garbles now.garbles
 TroubleHasCause before now (Fail Memory) = Unit {0}
 TroubleHasCause before now (Moved had other) = Rose before.moves now.moves
 
--- of all counts the one of this trouble alone may have changed; a move raised its own by one, and want of memory changed none
+-- of all counts the one of this trouble alone may have changed; a move raised its own by one, and lack of memory changed none
 abbrev pub CountsAlone : Counts → Counts → Trouble → Type 0
 CountsAlone before now (Fail Failed) = now ≡ record before { faults = now.faults }
 CountsAlone before now (Fail Garbled) = now ≡ record before { garbles = now.garbles }

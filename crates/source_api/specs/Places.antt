@@ -51,13 +51,13 @@ pub record CountsTakes (before now : PlaceCounts) : Type 0 where
 abbrev pub counts_taken : PlaceCounts → PlaceCounts
 counts_taken before = record before { taken = counted before.taken }
 
--- a text fails only where its count of the place went up, or stands at its last value; want of memory counts nothing; it never garbles and is never Moved
+-- a text fails only where its count of the place went up, or stands at its last value; lack of memory counts nothing; it never garbles and is never Moved
 abbrev pub HasTextCause : PlaceCounts → PlaceCounts → Trouble → Type 0
 HasTextCause before now (Fail Failed) = Rose before.text_faults now.text_faults
 HasTextCause before now (Fail Memory) = now ≡ before
 HasTextCause before now _ = ⊥
 
--- a take fails or garbles only where its count of the place went up, or stands at its last value; want of memory counts nothing; it is never Moved
+-- a take fails or garbles only where its count of the place went up, or stands at its last value; lack of memory counts nothing; it is never Moved
 abbrev pub HasTakeCause : PlaceCounts → PlaceCounts → Trouble → Type 0
 HasTakeCause before now (Fail Failed) = Rose before.take_faults now.take_faults
 HasTakeCause before now (Fail Garbled) = Rose before.take_faults now.take_faults

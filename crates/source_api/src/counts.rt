@@ -34,7 +34,7 @@ impl Counts {
         }
     }
 
-    /// Counts a call that ended so. Want of memory isn't counted.
+    /// Counts a call that ended so. Lack of memory isn't counted.
     pub fn count_trouble(&mut self, trouble: Trouble)
         ensures { self.new ≡ troubled trouble self.old }
     {

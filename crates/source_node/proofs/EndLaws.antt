@@ -42,7 +42,7 @@ quiet_given (Call.Grade object (Ok grade) ∷ calls) counts =
     quiet_then counts (gave_grade counts) (given_by calls (gave_grade counts)) record { faults = refl; garbles = refl; moves = refl } (quiet_given calls (gave_grade counts))
 quiet_given (Call.Grade object (Err why) ∷ calls) counts = quiet_given calls counts
 
--- a source that gave no answer, and not for want of memory, raised a count
+-- a source that gave no answer, and not for lack of memory, raised a count
 pub troubled : (asked : Asked) (before now : Seen) (why : Trouble) → Fails asked before now why → (why ≡ trouble.Fail kind.Memory → ⊥) → IsFailed asked before now
 troubled asked before now why fails other = record { why = why; fails = fails; troubled = by why fails.cause other }
   where

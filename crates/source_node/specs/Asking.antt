@@ -80,12 +80,12 @@ asked_at (Err why) = Err why
 abbrev pub asked_of : List ℕ → List ℕ → List ℕ → Result Asked Refusal
 asked_of name method target = asked_at (routed name method target)
 
--- what is answered on a route is what is asked there; want of memory is free
+-- what is answered on a route is what is asked there; lack of memory is free
 abbrev pub AsksAt : Result OnRoute Refusal → Result Asked Refusal → Type 0
 AsksAt at (Err NoMemory) = IsOk at
 AsksAt at answer = answer ≡ asked_at at
 
--- what is answered to a head is what it asks, or why it is refused; want of memory is free where it is on a route
+-- what is answered to a head is what it asks, or why it is refused; lack of memory is free where it is on a route
 abbrev pub AsksFor : List ℕ → List ℕ → List ℕ → Result Asked Refusal → Type 0
 AsksFor name method target answer = AsksAt (routed name method target) answer
 

@@ -74,7 +74,7 @@ abbrev pub StarvesAt : Result Asked Refusal → Seen → Seen → Type 0
 StarvesAt (Ok asked) before now = (now ≡ before) ⊎ (HasCount asked × IsStarved asked before now)
 StarvesAt (Err why) before now = now ≡ before
 
--- how a request with this method and this target is served; want of memory is free where it is on a route
+-- how a request with this method and this target is served; lack of memory is free where it is on a route
 abbrev pub Serves : List ℕ → Option ℕ → List ℕ → List ℕ → Seen → Seen → Result (List ℕ) Refusal → Type 0
 Serves name version method target before now (Err NoMemory) = IsOk (routed name method target) × StarvesAt (asked_of name method target) before now
 Serves name version method target before now answer = ServesAsked version (asked_of name method target) before now answer

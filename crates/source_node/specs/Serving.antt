@@ -103,7 +103,7 @@ IsStopped (asked.Page from count) why calls = StopsInTurn from count why calls
 IsStopped (asked.Grade object) why calls = calls ≡ Call.Grade object (Err why) ∷ []
 
 -- a source gave no answer to what was asked, and was asked for nothing else: of its counts that of the trouble alone changed behind what was
--- answered, and want of memory counts none
+-- answered, and lack of memory counts none
 pub record Fails (asked : Asked) (before now : Seen) (why : Trouble) : Type 0 where
   pub calls : List Call
   pub stopped : IsStopped asked why calls

@@ -26,7 +26,7 @@ use wire::{ConnEnd, Head, Kind, Refusal, read_request, refusal_of, refuse, send}
 /// that are no request, or end before its head is whole; then, by the head, 405, 400 or 404 as
 /// [`asked_of`] says; 503 where no memory is left while the answer is made; 500 where the source fails,
 /// is garbled, or states another version; and else 200, with the answer in JSON. Every other reply says
-/// its reason in plain text, but that one to the method HEAD has no body. When memory is wanting isn't
+/// its reason in plain text, but that one to the method HEAD has no body. When memory runs out isn't
 /// told, so 503 may come to any request.
 ///
 /// An answer states `version`, or where that is None the version that the source has at hand after it

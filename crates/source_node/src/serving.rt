@@ -25,7 +25,7 @@ pub enum Served {
 /// Serves the list of these routes to at most so many links of a port, one after another. Each link is taken,
 /// its one request answered as [`node_conn`] does, and given back before the next is taken. Once so many
 /// were served, or the port ended or failed, it is asked for no further link. A link that fails ends its
-/// own connection alone, and so does want of memory. The port has to listen already. The call may wait for
+/// own connection alone, and so does lack of memory. The port has to listen already. The call may wait for
 /// ever.
 pub fn serve_links<S: Source, P: Port>(
     alloc: Global,

@@ -34,11 +34,11 @@ pub use remembered::Remembered;
 pub use sharing::{join_all, split_all};
 pub use source_state::Memory;
 use source_state::SourceState;
-use topk_base::Listed;
+use topk_base::Seq32;
 pub use window::{WINDOW_ROWS, Window};
 
 /// The states of sources, in the order of their numbers.
-pub type States = Listed<SourceState>;
+pub type States = Seq32<SourceState>;
 
 /// The feeders of sources, in the order of their numbers.
-pub type Feeders = Listed<Feeder>;
+pub type Feeders = Seq32<Feeder>;

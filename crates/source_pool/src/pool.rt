@@ -130,7 +130,7 @@ impl Pool {
     /// nothing, and no fail is told. Whether it is asked for: who serves the source may be woken then.
     ///
     /// *Cost*: one turn of the source's lock, and one `look_at` in it; no memory.
-    pub fn foresee(&self, rt: &impl Wait, pass: &mut PoolPass, source: u32, need: Need) -> bool
+    pub fn prefetch(&self, rt: &impl Wait, pass: &mut PoolPass, source: u32, need: Need) -> bool
         requires own { IsPassOf self.now pass.old }
         requires source { source < length self.now }
         requires need { MayLookFor (hold_at pass.old source).pass.1 need }

@@ -29,7 +29,7 @@ pub enum Ran {
     So,
     /// They ended otherwise, or something else was used, or they weren't queries over a few small sources.
     Otherwise,
-    /// There was no batch, for want of memory.
+    /// There was no batch, for lack of memory.
     Short,
 }
 

@@ -104,7 +104,7 @@ fn faults_of(slots: &[Slot<Gated>]) -> u64 {
 enum Runs {
     /// Once, and it goes as it is to.
     Once,
-    /// Twice: there is no batch at first, for want of memory, and then the queries end as they are to.
+    /// Twice: there is no batch at first, for lack of memory, and then the queries end as they are to.
     Twice,
 }
 
@@ -121,7 +121,7 @@ fn goes_once<R: Threads + Wait + Sync>(
     Ok(so && faults_of(slots) == case.faults)
 }
 
-/// Whether a batch wants memory at first, and goes so over the same slots where it is run again.
+/// Whether a batch runs out of memory at first, and goes so over the same slots where it is run again.
 fn goes_twice<R: Threads + Wait + Sync>(
     rt: &R,
     alloc: Global,
@@ -193,7 +193,7 @@ pub fn goes_so<R: Threads + Wait + Sync>(rt: &R, alloc: Global, case: &Case) -> 
     goes(rt, alloc, case, Runs::Once)
 }
 
-/// Whether a batch wants memory at first, and goes as it is to where it is run again.
+/// Whether a batch runs out of memory at first, and goes as it is to where it is run again.
 pub fn goes_again<R: Threads + Wait + Sync>(
     rt: &R,
     alloc: Global,

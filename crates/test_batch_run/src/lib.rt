@@ -1,13 +1,9 @@
-//! Tests of batches with workers and fetchers that really run.
+//! Tests of batches, and of many made queries over a made table, with workers and fetchers that really run.
 //!
 //! Their rows were worked out by hand, over lists that are a table and over sources whose rows, grades or calls are at fault.
 //!
 //! Some sources have calls that wait until calls of another source were made, which shows that the queries and the fetchers
-//! run at the same time.
-//!
-//! Tests of many made queries over a made table, with workers and fetchers that really run.
-//!
-//! They have lines that were worked out apart, and show that the settings change nothing.
+//! run at the same time. The settings change nothing.
 #![tactic(auto)]
 
 #[cfg(test)]

@@ -106,7 +106,7 @@ fn a_foreseen_call_that_fails_refuses_nothing(rt: HostRuntime) -> Result<(), Fai
     Ok(())
 }
 
-/// A batch that wants memory runs again.
+/// A batch that runs out of memory runs again.
 #[test]
 fn a_batch_that_wants_memory_runs_again(rt: HostRuntime) -> Result<(), Fail> {
     assert!(rt; goes_again(&rt, rt.alloc(), &shortage::SHORT)?);

@@ -1,4 +1,4 @@
-//! A source that wants memory for the first row that a query waits for. The query is alone: another one that wanted the row after the
+//! A source that runs out of memory for the first row that a query waits for. The query is alone: another one that wanted the row after the
 //! fault would have it read again, and the first one might find it there before it learns of the fault.
 
 use super::cases::{A, B};
@@ -8,7 +8,7 @@ use batch_run::Settings;
 use source_api::{FailKind, Trouble};
 use test_query_support::{FIRST, FIRST_ENDS};
 
-/// The first call for a page wants memory, at once.
+/// The first call for a page runs out of memory, at once.
 pub static SHORT: Case = Case {
     waiters: &[
         (

@@ -1,10 +1,7 @@
-//! Tests of query lines over catalogs.
+//! Tests of the words of a command line, and of query lines over catalogs.
 //!
-//! They have each refusal of admission in its order, rows over sources in memory that were worked out by hand, and made queries over made tables,
-//! by the list files that `make` writes, which come to what `bulk` comes to.
-//!
-//! Tests of the words of a command line, and of the command `run` over catalogs and sources in memory: rows that were worked out by hand, and each
-//! fault in turn.
+//! They have each refusal of admission in its order, rows over sources in memory that were worked out by hand, each fault in turn, and made queries over
+//! made tables, by the list files that `make` writes, which come to what `bulk` comes to.
 #![tactic(auto)]
 
 #[cfg(test)]

@@ -3,14 +3,14 @@
 ghost use Rattle.std.specs.Prelude.{◌==◌, length, None, if◌then◌else◌};
 
 use cert_text::Refusal;
-use query_admission::{Admitted, Listed, Lists, admit};
+use query_admission::{Admitted, ListInfo, Lists, admit};
 use std::alloc::Global;
 
 /// What a name of one byte finds, and what each other name finds.
 #[derive(Drop)]
 struct Two {
-    short: Option<Listed>,
-    long: Option<Listed>,
+    short: Option<ListInfo>,
+    long: Option<ListInfo>,
 }
 
 impl Lists for Two {
@@ -19,7 +19,7 @@ impl Lists for Two {
       told = λ name. None;
     } };
 
-    fn find(&self, name: &[u8]) -> Option<Listed> {
+    fn find(&self, name: &[u8]) -> Option<ListInfo> {
         if name.len() == 1 {
             self.short
         } else {
@@ -44,7 +44,7 @@ enum Under {
 }
 
 /// What is found under a name.
-fn listed(under: Under) -> Option<Listed> {
+fn listed(under: Under) -> Option<ListInfo> {
     let (size, random, sorted, source, version) = match under {
         Under::Nothing => return None,
         Under::Closed => (None, false, false, 0, 0),
@@ -52,7 +52,7 @@ fn listed(under: Under) -> Option<Listed> {
         Under::RandomOnly(size) => (Some(size), true, false, 8, 5),
         Under::Both(size) => (Some(size), true, true, 7, u64::MAX),
     };
-    Some(Listed {
+    Some(ListInfo {
         size,
         random,
         sorted,

@@ -93,7 +93,7 @@ IsDue fails garbles call at_hand now (Some (Fail Garbled)) = ¬ Contains fails c
 IsDue fails garbles call at_hand now (Some (Fail Memory)) = ⊥
 IsDue fails garbles call at_hand now (Some (Moved had other)) = IsSound fails garbles call × (had ≡ at_hand) × (other ≡ now) × (had ≢ other)
 
--- how a call ended whose end its number decides: want of memory is none of these
+-- how a call ended whose end its number decides: lack of memory is none of these
 abbrev pub trouble_in : {T : Type 0} → Result T Trouble → Option Trouble
 trouble_in (Ok answer) = None
 trouble_in (Err (Fail Failed)) = Some (Fail Failed)
@@ -112,7 +112,7 @@ page_called m counts = record m { page_calls = next_call m.page_calls; calls = n
 abbrev pub grade_called : Stored → Counts → Stored
 grade_called m counts = record m { grade_calls = next_call m.grade_calls; calls = next_call m.calls; counts = counts }
 
--- after a call for a page that ended so; want of memory leaves all as it was
+-- after a call for a page that ended so; lack of memory leaves all as it was
 abbrev pub after_page : Result (Vec Row) Trouble → Stored → Stored
 after_page (Ok page) m = page_called m (gave_rows (vec_len page) m.counts)
 after_page (Err (Fail Failed)) m = page_called m (troubled (Fail Failed) m.counts)

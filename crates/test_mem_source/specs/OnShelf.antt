@@ -65,7 +65,7 @@ AnswersTake s place (Err (Fail Failed)) = given_source s place ≡ None
 AnswersTake s place (Err (Fail Memory)) = Unit {0}
 AnswersTake s place (Err _) = ⊥
 
--- after a call for a text that ended so: a call that failed is counted at its place, and want of memory leaves all as it was
+-- after a call for a text that ended so: a call that failed is counted at its place, and lack of memory leaves all as it was
 abbrev pub AfterText : Shelved → Shelved → List ℕ → Result (Vec ℕ) Trouble → Type 0
 AfterText s now place (Ok text) = now ≡ record s { text_calls = next_call s.text_calls }
 AfterText s now place (Err (Fail Failed)) = (now ≡ record s { text_calls = next_call s.text_calls; ledger = now.ledger }) × IsTextFault s.ledger now.ledger place

@@ -30,7 +30,7 @@ struct HeldSource {
 ///
 /// The calls for texts and those for sources are counted apart, over all places, from 1. A call whose
 /// number stands in the list of its kind fails, and so does a call for what the place hasn't. A call
-/// that wanted memory isn't counted. Contracts see it as the record of its parts.
+/// that ran out of memory isn't counted. Contracts see it as the record of its parts.
 #[derive(Drop)]
 pub struct MemShelf {
     alloc: Global,

@@ -20,7 +20,7 @@ use std::marker::Model;
 /// The calls for pages and those for grades are counted apart, from 1. A call whose number stands in
 /// a list of those that fail fails, and else one whose number stands in a list of those that garble
 /// garbles. A call that neither fails nor garbles is `Moved` where the version at it isn't the one that
-/// the last `size` stated. A call that wanted memory isn't counted. Contracts see it as the record of its parts.
+/// the last `size` stated. A call that ran out of memory isn't counted. Contracts see it as the record of its parts.
 #[derive(Drop)]
 pub struct MemSource {
     rows: Vec<Row>,

@@ -10,7 +10,7 @@ pub(crate) enum Reads<T> {
     Nothing,
 }
 
-/// Whether bytes were refused as no body, and not for want of memory.
+/// Whether bytes were refused as no body, and not for lack of memory.
 pub(crate) fn is_refused(fault: JsonFault) -> bool {
     fault == JsonFault::NotABody
 }

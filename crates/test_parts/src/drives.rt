@@ -1,7 +1,7 @@
 ghost use Rattle.std.specs.Prelude.{◌≡◌, ◌≤◌, ◌<◌, None, All, IfSome};
 ghost use Rattle.keyed_lock.specs.Hold.{IsPassOf};
 
-use keyed_lock::{Kept, KeyedLock, Pass};
+use keyed_lock::{KeyedLock, LockInvariant, Pass};
 use std::alloc::Global;
 use std::sync::Wait;
 use std::thread::{Threads, join_mut};
@@ -12,7 +12,7 @@ pub struct Counter {
     pub count: u64,
 }
 
-impl Kept for Counter {
+impl LockInvariant for Counter {
     ghost use Rattle.std.specs.Prelude.{◌≤◌};
 
     type Key = u64;

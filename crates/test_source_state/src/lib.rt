@@ -1,34 +1,18 @@
 //! Tests of the state of a source, of looks at it and of what is fetched next, and of the tree of grades under it.
 //!
 //! They have rows that were worked out by hand, and each public call once.
-//!
-//! Tests of sources and shelves in memory and in files, and of links over TCP, by their public calls.
 #![tactic(auto)]
 
-#[cfg(test)]
-mod file_faults;
-#[cfg(test)]
-mod file_shelf;
 #[cfg(test)]
 mod grades;
 #[cfg(test)]
 mod histories;
 #[cfg(test)]
-mod in_memory;
-#[cfg(test)]
-mod links_over_tcp;
-#[cfg(test)]
-mod list_files;
-#[cfg(test)]
 mod looks;
 #[cfg(test)]
 mod plans;
 #[cfg(test)]
-mod shelves;
-#[cfg(test)]
 mod steps;
-#[cfg(test)]
-mod versions;
 
 #[cfg(test)]
 use std::process::Abort;

@@ -5,7 +5,7 @@ use Rattle.topk_theory.proofs.AgreementLists.{contains_here, contains_there, mem
 use Rattle.source_state.specs.State.{State}
 use Rattle.query_core.specs.declared.ready.Ready.{Ready}
 use Rattle.query_run.specs.declared.ended.Ended.{Ended}
-use Rattle.query_run.specs.declared.inquiry.Inquiry.{Inquiry}
+use Rattle.query_run.specs.declared.running_query.RunningQuery.{RunningQuery}
 use Rattle.test_worlds.specs.Worlds.{WorldState}
 use Rattle.query_run.specs.Kept.{IsServed}
 use Rattle.test_worlds.specs.Kept.{IsWorld}
@@ -14,8 +14,8 @@ use Rattle.test_worlds.specs.Made.{AreOf}
 use Rattle.query_run.specs.Endings.{EndsAs, IsRight}
 use Rattle.query_run.proofs.Ending.{right}
 
-all_right : (states : List State) (readies : List Ready) (queries : List Inquiry) (endings : List Ended)
-    → ((q : Inquiry) → Contains queries q → IsServed states q) → AllZip IsOf readies queries → AllZip EndsAs queries endings → AllZip IsRight readies endings
+all_right : (states : List State) (readies : List Ready) (queries : List RunningQuery) (endings : List Ended)
+    → ((q : RunningQuery) → Contains queries q → IsServed states q) → AllZip IsOf readies queries → AllZip EndsAs queries endings → AllZip IsRight readies endings
 all_right states [] [] [] h are ends = tt
 all_right states [] [] (e ∷ endings) h are ends = absurd ends
 all_right states [] (q ∷ queries) endings h are ends = absurd are

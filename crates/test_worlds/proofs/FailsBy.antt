@@ -29,7 +29,7 @@ use Rattle.source_state.specs.Looking.{waits_for, newer, told, called, Refuses, 
 use Rattle.source_state.proofs.Lists.{none_not_some}
 use Rattle.query_core.specs.declared.ready.Ready.{Ready}
 use Rattle.query_run.specs.declared.ended.Refusal.TheVariants as refusal
-use Rattle.query_run.specs.declared.inquiry.Inquiry.{Inquiry}
+use Rattle.query_run.specs.declared.running_query.RunningQuery.{RunningQuery}
 use Rattle.test_worlds.specs.declared.step.Step.{Step}
 use Rattle.test_worlds.specs.declared.step.Step.TheVariants.{Page, Grade, Miss, Fail, Move, Turn}
 use Rattle.query_run.specs.Inquiries.{needed, list_needed, source_of, source_needed}
@@ -55,7 +55,7 @@ runs_push w v first [] step ran may does = (v, subst (λ u. MayStep u step) ran 
 runs_push w v first (one ∷ steps) step ran may does = (ran.0, ran.1, ran.2, runs_push w v ran.0 steps step ran.3 may does)
 
 -- a query that waits for a need began to, and the fails that came since are among the steps since
-record Waits (first : WorldState) (steps : List Step) (w : WorldState) (query : ℕ) (q : Inquiry) (n : Need) : Type 0 where
+record Waits (first : WorldState) (steps : List Step) (w : WorldState) (query : ℕ) (q : RunningQuery) (n : Need) : Type 0 where
   earlier : List Step
   later : List Step
   order : steps ≡ earlier ++ Turn query ∷ later
@@ -67,12 +67,12 @@ record Waits (first : WorldState) (steps : List Step) (w : WorldState) (query : 
   since : (what : FailKind) → (HasFailed what q.waiting.noted (state_at w.states (source_needed q)).tally → ⊥) ⊎ Contains later (Fail (source_needed q) what)
 
 -- what is known of a query after some steps
-record Known (first : WorldState) (steps : List Step) (w : WorldState) (query : ℕ) (q : Inquiry) : Type 0 where
+record Known (first : WorldState) (steps : List Step) (w : WorldState) (query : ℕ) (q : RunningQuery) : Type 0 where
   waits : (n : Need) → q.waiting.need ≡ Some n → Waits first steps w query q n
   refused : (list : ℕ) (what : FailKind) → q.refusal ≡ Some (refusal.Look list (why.Call what)) → IsToldOfFail first steps w query list what
 
 abbrev AllKnown : WorldState → List Step → WorldState → Type 0
-AllKnown first steps w = (query : ℕ) (q : Inquiry) → slice_get w.queries query ≡ Some q → Known first steps w query q
+AllKnown first steps w = (query : ℕ) (q : RunningQuery) → slice_get w.queries query ≡ Some q → Known first steps w query q
 
 -- one more step
 longer : (front : List Step) (mid : Step) (back : List Step) (step : Step) (steps : List Step) → steps ≡ front ++ mid ∷ back
@@ -100,7 +100,7 @@ told_longer first steps w v query list what step may does h = record {
 abbrev TellsNoMore : State → State → Step → ℕ → Type 0
 TellsNoMore s t step source = (what : FailKind) → ((noted : Tally) → HasFailed what noted t.tally → HasFailed what noted s.tally) ⊎ (step ≡ Fail source what)
 
-waits_longer : (first : WorldState) (steps : List Step) (w v : WorldState) (query : ℕ) (q : Inquiry) (n : Need) (step : Step) → MayStep w step → Steps step w v
+waits_longer : (first : WorldState) (steps : List Step) (w v : WorldState) (query : ℕ) (q : RunningQuery) (n : Need) (step : Step) → MayStep w step → Steps step w v
     → TellsNoMore (state_at w.states (source_needed q)) (state_at v.states (source_needed q)) step (source_needed q)
     → Waits first steps w query q n → Waits first (steps ++ step ∷ []) v query q n
 waits_longer first steps w v query q n step may does more h = record {
@@ -121,7 +121,7 @@ waits_longer first steps w v query q n step may does more h = record {
   ];
 }
 
-known_longer : (first : WorldState) (steps : List Step) (w v : WorldState) (query : ℕ) (q : Inquiry) (step : Step) → MayStep w step → Steps step w v
+known_longer : (first : WorldState) (steps : List Step) (w v : WorldState) (query : ℕ) (q : RunningQuery) (step : Step) → MayStep w step → Steps step w v
     → TellsNoMore (state_at w.states (source_needed q)) (state_at v.states (source_needed q)) step (source_needed q)
     → Known first steps w query q → Known first (steps ++ step ∷ []) v query q
 known_longer first steps w v query q step may does more h = record {
@@ -208,7 +208,7 @@ same_fault : (list other : ℕ) (fault one : LookFault) → Some (refusal.Look l
 same_fault list other fault one e = cc
 
 -- the refusal of a turn is that of its look
-refusal_is : (q r : Inquiry) (answer : Look) (list : ℕ) (what : FailKind) → Answers q r answer → r.refusal ≡ Some (refusal.Look list (why.Call what))
+refusal_is : (q r : RunningQuery) (answer : Look) (list : ℕ) (what : FailKind) → Answers q r answer → r.refusal ≡ Some (refusal.Look list (why.Call what))
     → answer ≡ look.Fault (why.Call what)
 refusal_is q r (look.Row row) list what answers e = absurd (subst (RowTaken row q r) e answers)
 refusal_is q r (look.Grade grade) list what answers e = absurd (none_not_some (sym answers.0 ∙ e))
@@ -243,10 +243,10 @@ turn_waits first steps w v query t n look.NotYet looks answers e =
       | inr begins ↦ begun begins.fresh begins.notes
     ]
   where
-    q : Inquiry
+    q : RunningQuery
     q = t.turn.q
 
-    r : Inquiry
+    r : RunningQuery
     r = t.turn.r
 
     source : source_needed t.turn.r ≡ source_needed t.turn.q
@@ -420,6 +420,6 @@ none_known counts readies w made query q is =
 
 pub fails_told : (counts : List ℕ) (readies : List Ready) (first : WorldState) (steps : List Step) (last : WorldState) → IsWorld first
     → IsMade counts readies first → Runs first steps last
-    → (query : ℕ) (q : Inquiry) (list : ℕ) (what : FailKind) → slice_get last.queries query ≡ Some q → q.refusal ≡ Some (refusal.Look list (why.Call what)) → IsToldOfFail first steps last query list what
+    → (query : ℕ) (q : RunningQuery) (list : ℕ) (what : FailKind) → slice_get last.queries query ≡ Some q → q.refusal ≡ Some (refusal.Look list (why.Call what)) → IsToldOfFail first steps last query list what
 fails_told counts readies first steps last world made runs query q list what is e =
     (runs_known first [] steps first last refl world (none_known counts readies first made) runs query q is).refused list what e

@@ -11,7 +11,7 @@ use Rattle.source_state.specs.State.{opened, state_at}
 use Rattle.source_state.specs.Events.{after}
 use Rattle.query_core.specs.Machines.{state_of}
 use Rattle.query_core.specs.declared.ready.Ready.{Ready}
-use Rattle.query_run.specs.declared.inquiry.Inquiry.{Inquiry}
+use Rattle.query_run.specs.declared.running_query.RunningQuery.{RunningQuery}
 use Rattle.test_worlds.specs.declared.step.Step.{Step}
 use Rattle.test_worlds.specs.declared.step.Step.TheVariants.{Page, Grade, Miss, Fail, Move, Turn}
 use Rattle.query_run.specs.Inquiries.{needed, source_needed, is_ended}
@@ -55,7 +55,7 @@ true_turn lists query w after h going t is =
     let own = member_of_all (IsTrueFor lists w.states) w.queries q is there in
     let parts = open_parts q (open_is (slice_get w.queries query) q t.is going) in
     let of = need_of_object lists w.states q (needed q) h.sound served own refl parts.1 in
-    let changed = λ (other : Inquiry) (c : Contains w.queries other) (k : Contains other.sources.items source).
+    let changed = λ (other : RunningQuery) (c : Contains w.queries other) (k : Contains other.sources.items source).
     true_looked (list_at lists source) (needed q) (state_at w.states source) u q.waiting t.r.waiting t.turns.answer
     (member_of_all (λ o. IsTrueOf (list_at lists o) (state_at w.states o)) other.sources.items source (member_of_all (IsTrueFor lists w.states) w.queries other is c).each k) of t.turns.looks in
     let others : All (IsTrueFor lists (slice_set w.states source u)) w.queries =
@@ -65,7 +65,7 @@ true_turn lists query w after h going t is =
     subst (λ states. All (IsTrueFor lists states) after.queries) (sym t.turns.others)
     (subst (All (IsTrueFor lists (slice_set w.states source u))) (sym t.others) (All-set (IsTrueFor lists (slice_set w.states source u)) w.queries query t.r turned others))
   where
-    open_is : (o : Option Inquiry) (q : Inquiry) → o ≡ Some q → IsOpen o → is_ended q ≡ false
+    open_is : (o : Option RunningQuery) (q : RunningQuery) → o ≡ Some q → IsOpen o → is_ended q ≡ false
     open_is o q e going = subst IsOpen e going
 
 true_is : (lists : List (List Row)) (after other : WorldState) → after ≡ other → IsTrueWorld lists other → IsTrueWorld lists after

@@ -7,7 +7,7 @@ use Rattle.topk_theory.proofs.Agreement.{contains_middle}
 use Rattle.topk_theory.proofs.AgreementLists.{member_of_all}
 use Rattle.source_state.specs.State.{State, opened}
 use Rattle.query_run.specs.declared.ended.Ended.{Ended}
-use Rattle.query_run.specs.declared.inquiry.Inquiry.{Inquiry}
+use Rattle.query_run.specs.declared.running_query.RunningQuery.{RunningQuery}
 use Rattle.query_run.specs.Inquiries.{is_ended}
 use Rattle.query_run.specs.Made.{opened_from}
 use Rattle.query_run.specs.Endings.{EndsAs}
@@ -44,28 +44,28 @@ opened_more states more counts place count l is e next =
     next ∙ ap (λ ss. ss ++ opened (length states) count ∷ []) e ∙ ap (λ c. opened_from 0 (take place counts) ++ opened (length states) c ∷ []) is
     ∙ ap (λ f. opened_from 0 (take place counts) ++ opened f (slice_index_or counts place 0) ∷ []) (sym at) ∙ sym from
 
-pub ending_count : (queries : List Inquiry) (endings : List Ended) → AllZip EndsAs queries endings → length endings ≡ length queries
+pub ending_count : (queries : List RunningQuery) (endings : List Ended) → AllZip EndsAs queries endings → length endings ≡ length queries
 ending_count queries endings h = AllZip-long EndsAs queries endings h
 
 -- of these queries some are left, the last one first, and the endings are those of the others
-pub record EndsSoFar (queries left : List Inquiry) (endings : List Ended) : Type 0 where
-  pub front : List Inquiry
+pub record EndsSoFar (queries left : List RunningQuery) (endings : List Ended) : Type 0 where
+  pub front : List RunningQuery
   pub splits : queries ≡ front ++ reverse left
   pub ends : AllZip EndsAs front endings
 
-pub ends_begin : (queries left : List Inquiry) (endings : List Ended) → left ≡ reverse queries → endings ≡ [] → EndsSoFar queries left endings
+pub ends_begin : (queries left : List RunningQuery) (endings : List Ended) → left ≡ reverse queries → endings ≡ [] → EndsSoFar queries left endings
 ends_begin queries left endings e none = record {
   front = [];
   splits = sym (reverse-reverse queries) ∙ ap reverse (sym e);
   ends = subst (AllZip EndsAs []) (sym none) tt;
 }
 
-next_splits : (queries front left rest : List Inquiry) (query : Inquiry) → queries ≡ front ++ reverse left → left ≡ rest ++ query ∷ []
+next_splits : (queries front left rest : List RunningQuery) (query : RunningQuery) → queries ≡ front ++ reverse left → left ≡ rest ++ query ∷ []
     → queries ≡ front ++ query ∷ reverse rest
 next_splits queries front left rest query e popped = e ∙ ap (λ xs. front ++ reverse xs) popped ∙ ap (λ xs. front ++ xs) (reverse-append rest (query ∷ []))
 
-pub ends_more : (queries left rest : List Inquiry) (query : Inquiry) (endings more : List Ended) → EndsSoFar queries left endings
-    → left ≡ rest ++ query ∷ [] → ((front : List Inquiry) → AllZip EndsAs front endings → AllZip EndsAs (front ++ query ∷ []) more)
+pub ends_more : (queries left rest : List RunningQuery) (query : RunningQuery) (endings more : List Ended) → EndsSoFar queries left endings
+    → left ≡ rest ++ query ∷ [] → ((front : List RunningQuery) → AllZip EndsAs front endings → AllZip EndsAs (front ++ query ∷ []) more)
     → EndsSoFar queries rest more
 ends_more queries left rest query endings more h popped next = record {
   front = h.front ++ query ∷ [];
@@ -73,10 +73,10 @@ ends_more queries left rest query endings more h popped next = record {
   ends = next h.front h.ends;
 }
 
-pub ends_whole : (queries left : List Inquiry) (endings : List Ended) → EndsSoFar queries left endings → left ≡ [] → AllZip EndsAs queries endings
+pub ends_whole : (queries left : List RunningQuery) (endings : List Ended) → EndsSoFar queries left endings → left ≡ [] → AllZip EndsAs queries endings
 ends_whole queries left endings h none = subst (λ xs. AllZip EndsAs xs endings) (sym (h.splits ∙ ap (λ xs. h.front ++ reverse xs) none ∙ append-nil h.front)) h.ends
 
-pub next_ended : (queries left rest : List Inquiry) (query : Inquiry) (endings : List Ended) → All (λ (q : Inquiry). is_ended q ≡ true) queries
+pub next_ended : (queries left rest : List RunningQuery) (query : RunningQuery) (endings : List Ended) → All (λ (q : RunningQuery). is_ended q ≡ true) queries
     → EndsSoFar queries left endings → left ≡ rest ++ query ∷ [] → is_ended query ≡ true
 next_ended queries left rest query endings all h popped =
-    member_of_all (λ (q : Inquiry). is_ended q ≡ true) queries query all (subst (λ xs. Contains xs query) (sym (next_splits queries h.front left rest query h.splits popped)) (contains_middle h.front query (reverse rest)))
+    member_of_all (λ (q : RunningQuery). is_ended q ≡ true) queries query all (subst (λ xs. Contains xs query) (sym (next_splits queries h.front left rest query h.splits popped)) (contains_middle h.front query (reverse rest)))

@@ -12,7 +12,7 @@ use Rattle.query_core.specs.declared.ready.Ready.{Ready}
 use Rattle.query_core.specs.Driving.{Continues}
 use Rattle.query_core.specs.Machines.{method_of, state_of}
 use Rattle.query_core.proofs.Feeding.{continues_on}
-use Rattle.query_run.specs.declared.inquiry.Inquiry.{Inquiry}
+use Rattle.query_run.specs.declared.running_query.RunningQuery.{RunningQuery}
 use Rattle.test_worlds.specs.declared.step.Step.{Step}
 use Rattle.test_worlds.specs.declared.step.Step.TheVariants.{Page, Grade, Miss, Fail, Move, Turn}
 use Rattle.query_run.specs.Histories.{HasHistory}
@@ -37,7 +37,7 @@ pub record Stepped (before after : WorldState) : Type 0 where
   pub later : IsAfter before after
   pub queries : (readies : List Ready) → AreOf readies before → AreOf readies after
 
-pub all_served : (states laters : List State) (queries : List Inquiry) → AreLater states laters → All (IsServed states) queries → All (IsServed laters) queries
+pub all_served : (states laters : List State) (queries : List RunningQuery) → AreLater states laters → All (IsServed states) queries → All (IsServed laters) queries
 all_served states laters queries later h = all_from_members (IsServed laters) queries (λ q c. served_stays states laters q later (member_of_all (IsServed states) queries q h c))
 
 event_steps : (w : WorldState) (source : ℕ) (e : Event) → IsWorld w → MayComeTo w.states source e
@@ -57,7 +57,7 @@ event_steps w source e h may =
     }
 
 -- the member of an option that is going
-pub open_query : (o : Option Inquiry) (q : Inquiry) → o ≡ Some q → IsOpen o → is_ended q ≡ false
+pub open_query : (o : Option RunningQuery) (q : RunningQuery) → o ≡ Some q → IsOpen o → is_ended q ≡ false
 open_query o q e going = subst IsOpen e going
 
 pub turn_of : (query : ℕ) (w after : WorldState) → IsWorld w → IsOpen (slice_get w.queries query) → (t : TakesTurn query w after)
@@ -78,7 +78,7 @@ turn_steps query w after h going t =
       };
       later = record {
         sources = done.later.long;
-        queries = ap (length {A = Inquiry}) t.others ∙ length-set w.queries query t.r;
+        queries = ap (length {A = RunningQuery}) t.others ∙ length-set w.queries query t.r;
         goes = λ other l. (done.later.each other l).goes;
         reads = subst (AllZip ReadsOn w.queries) (sym t.others)
             (all_zip_set ReadsOn w.queries w.queries query t.q t.r (all_read_same w.queries) t.is
@@ -87,7 +87,7 @@ turn_steps query w after h going t =
       queries = λ readies are. subst (AllZip IsOf readies) (sym t.others) (all_zip_set IsOf readies w.queries query t.q t.r are t.is (λ ready of. of_on ready t.q t.r of done.goes t.turns.sources t.turns.same));
     }
   where
-    of_on : (ready : Ready) (q r : Inquiry) → IsOf ready q → Continues (state_of q.machine) (state_of r.machine) → r.sources.items ≡ q.sources.items
+    of_on : (ready : Ready) (q r : RunningQuery) → IsOf ready q → Continues (state_of q.machine) (state_of r.machine) → r.sources.items ≡ q.sources.items
         → method_of r.machine ≡ method_of q.machine → IsOf ready r
     of_on ready q r is goes sources same = record {
       is = is.is;

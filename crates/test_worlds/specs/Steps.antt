@@ -5,7 +5,7 @@ use Rattle.source_state.specs.declared.event.Event.{Event}
 use Rattle.source_state.specs.declared.event.Event.TheVariants as event
 use Rattle.source_state.specs.State.{State, state_at}
 use Rattle.source_state.specs.Events.{after, MayCome}
-use Rattle.query_run.specs.declared.inquiry.Inquiry.{Inquiry}
+use Rattle.query_run.specs.declared.running_query.RunningQuery.{RunningQuery}
 use Rattle.test_worlds.specs.declared.step.Step.{Step}
 use Rattle.test_worlds.specs.declared.step.Step.TheVariants.{Page, Grade, Miss, Fail, Move, Turn}
 use Rattle.query_run.specs.Inquiries.{is_ended}
@@ -21,7 +21,7 @@ abbrev pub MayComeTo : List State → ℕ → Event → Type 0
 MayComeTo states source e = (source < length states) × MayCome (state_at states source) e
 
 -- there is such a query, and it hasn't ended
-abbrev pub IsOpen : Option Inquiry → Type 0
+abbrev pub IsOpen : Option RunningQuery → Type 0
 IsOpen None = ⊥
 IsOpen (Some q) = is_ended q ≡ false
 
@@ -41,8 +41,8 @@ pub record IsTestOf (test : Bool) (P : Type 0) : Type 0 where
 
 -- the query of this number takes a turn, and the others stay
 pub record TakesTurn (query : ℕ) (before after : WorldState) : Type 0 where
-  pub q : Inquiry
-  pub r : Inquiry
+  pub q : RunningQuery
+  pub r : RunningQuery
   pub is : slice_get before.queries query ≡ Some q
   pub turns : Turns before.states after.states q r
   pub others : after.queries ≡ slice_set before.queries query r

@@ -10,7 +10,7 @@ ghost use Rattle.test_worlds.specs.Worlds.{world_of};
 ghost use Rattle.test_worlds.specs.Steps.{IsTestOf, MayComeTo, IsOpen, MayStep};
 
 use super::step::Step;
-use query_run::Inquiry;
+use query_run::RunningQuery;
 use ranked_list::PageRows;
 use source_state::{Asked, SourceState};
 
@@ -74,7 +74,7 @@ fn may_move_on(states: &[SourceState], source: u32, object: Option<u32>, had: u6
 }
 
 /// Whether a query may take a turn.
-fn may_turn(queries: &[Inquiry], query: u32) -> bool
+fn may_turn(queries: &[RunningQuery], query: u32) -> bool
     ensures { IsTestOf result (IsOpen (slice_get queries.now query)) }
 {
     match queries.get(query as usize) {
@@ -84,7 +84,7 @@ fn may_turn(queries: &[Inquiry], query: u32) -> bool
 }
 
 /// Whether a step of these sources and queries is lawful.
-pub(crate) fn may_take(states: &[SourceState], queries: &[Inquiry], step: &Step) -> bool
+pub(crate) fn may_take(states: &[SourceState], queries: &[RunningQuery], step: &Step) -> bool
     ensures { IsTestOf result (MayStep (world_of states.now queries.now) step.now) }
 {
     match step {
@@ -104,7 +104,7 @@ pub(crate) fn may_take(states: &[SourceState], queries: &[Inquiry], step: &Step)
 }
 
 /// Whether all of these queries have ended.
-pub(crate) fn are_ended(queries: &[Inquiry]) -> bool
+pub(crate) fn are_ended(queries: &[RunningQuery]) -> bool
     ensures { IsTestOf result (All (λ query. is_ended query ≡ true) queries.now) }
 {
     for place in 0..queries.len() {

@@ -6,7 +6,7 @@ ghost use Rattle.source_api.specs.declared.source.FailKind.{FailKind};
 ghost use Rattle.source_state.specs.declared.look.LookFault.TheVariants.{Call};
 ghost use Rattle.query_core.specs.declared.ready.Ready.{Ready};
 ghost use Rattle.query_run.specs.declared.ended.Refusal.TheVariants.{Look};
-ghost use Rattle.query_run.specs.declared.inquiry.Inquiry.{Inquiry};
+ghost use Rattle.query_run.specs.declared.running_query.RunningQuery.{RunningQuery};
 ghost use Rattle.test_worlds.specs.declared.step.Step.{Step};
 ghost use Rattle.test_worlds.specs.Worlds.{WorldState};
 ghost use Rattle.test_worlds.specs.Kept.{IsWorld, IsAfter};
@@ -37,7 +37,7 @@ pub fn each_order_gives_the_one_answer()
 pub fn a_failure_refuses_those_that_wait()
     ensures { (counts : List ℕ) (readies : List Ready) (first : WorldState) (steps : List Step) (last : WorldState)
         → All (λ count. count ≤ MAX_OBJECTS) counts → All (IsReadyFor counts) readies → IsMade counts readies first → Runs first steps last
-        → (query : ℕ) (q : Inquiry) (list : ℕ) (what : FailKind) → slice_get last.queries query ≡ Some q → q.refusal ≡ Some (Look list (Call what))
+        → (query : ℕ) (q : RunningQuery) (list : ℕ) (what : FailKind) → slice_get last.queries query ≡ Some q → q.refusal ≡ Some (Look list (Call what))
         → IsToldOfFail first steps last query list what }
 {}
 

@@ -19,7 +19,7 @@ ghost use Rattle.query_run.specs.Endings.{EndsAs, IsRight};
 use super::lawful::{are_ended, may_take};
 use super::step::Step;
 use query_core::Ready;
-use query_run::{Ended, Endings, Inquiry, Memory, let_go, turn};
+use query_run::{Ended, Endings, Memory, RunningQuery, let_go, turn};
 use source_state::{Event, SourceState};
 use std::alloc::Global;
 use std::marker::Model;
@@ -29,7 +29,7 @@ use topk_base::MAX_OBJECTS;
 #[derive(Drop)]
 pub struct World {
     states: Vec<SourceState>,
-    queries: Vec<Inquiry>,
+    queries: Vec<RunningQuery>,
 }
 
 impl Model for World {
@@ -69,7 +69,7 @@ fn open_all(alloc: Global, counts: &[u32], states: &mut Vec<SourceState>) -> Res
 }
 
 /// Makes the queries, before any access. Room for each is taken before it is made.
-fn make_all(alloc: Global, readies: &[Ready], queries: &mut Vec<Inquiry>) -> Result<(), Memory>
+fn make_all(alloc: Global, readies: &[Ready], queries: &mut Vec<RunningQuery>) -> Result<(), Memory>
     requires none { queries.old.items ≡ [] }
     requires ready { All IsReady readies.now }
     ensures { OnOk result (AllZip IsFresh readies.now queries.new.items) }
@@ -78,7 +78,7 @@ fn make_all(alloc: Global, readies: &[Ready], queries: &mut Vec<Inquiry>) -> Res
         let Ok(()) = queries.reserve(1) else {
             return Err(Memory);
         };
-        let query = Inquiry::make(alloc, &readies[place])?;
+        let query = RunningQuery::make(alloc, &readies[place])?;
         queries.push_reserved(query);
     }
     Ok(())
@@ -90,7 +90,7 @@ fn fill(
     counts: &[u32],
     readies: &[Ready],
     states: &mut Vec<SourceState>,
-    queries: &mut Vec<Inquiry>,
+    queries: &mut Vec<RunningQuery>,
 ) -> Result<(), Memory>
     requires sources { length counts.now < 2 ^ 32 }
     requires counts { All (λ count. count ≤ MAX_OBJECTS) counts.now }
@@ -113,7 +113,7 @@ fn come(states: &mut Vec<SourceState>, source: u32, event: Event)
 }
 
 /// Takes a step.
-fn take(states: &mut Vec<SourceState>, queries: &mut Vec<Inquiry>, step: Step)
+fn take(states: &mut Vec<SourceState>, queries: &mut Vec<RunningQuery>, step: Step)
     requires world { IsWorld (world_of states.old.items queries.old.items) }
     requires may { MayStep (world_of states.old.items queries.old.items) step }
     ensures { Steps step (world_of states.old.items queries.old.items) (world_of states.new.items queries.new.items) }
@@ -138,7 +138,7 @@ fn take(states: &mut Vec<SourceState>, queries: &mut Vec<Inquiry>, step: Step)
 }
 
 /// How queries end, in their order. They are taken out. Room for the endings is taken first.
-fn end_all(queries: &mut Vec<Inquiry>, endings: &mut Vec<Ended>) -> Result<(), Memory>
+fn end_all(queries: &mut Vec<RunningQuery>, endings: &mut Vec<Ended>) -> Result<(), Memory>
     requires none { endings.old.items ≡ [] }
     requires ended { All (λ query. is_ended query ≡ true) queries.old.items }
     ensures { OnOk result (AllZip EndsAs queries.old.items endings.new.items) }

@@ -1,12 +1,12 @@
-//! The limits of topk, the settings of a run within them, and `Memory`, the error of a call that gets no memory.
+//! What every crate stands on: limits and settings, `Memory`, values in order, and what a line, a number and a name are in a text.
 //!
-//! Each is stated once, and every other crate cites it from here.
+//! Each limit is stated once, and every other crate cites it from here. `Memory` is the error of a call that gets no memory.
 //!
-//! Values in order, which contracts see as their list.
+//! `Seq32` holds values in order, which contracts see as their list.
 //!
-//! They take the place of a struct with a model for each kind of value.
+//! It takes the place of a struct with a model for each kind of value.
 //!
-//! What a line, a number and a name are in a text, and where a text is cut.
+//! A text is cut into lines, numbers and names by `first_line` and its like.
 #![tactic(auto)]
 
 ghost use Rattle.std.specs.Prelude.{◌≡◌, ◌==◌, ◌<◌, ◌^◌, length, slice_get, vec_len};
@@ -136,11 +136,11 @@ pub const MAX_LINGER: usize = 16_777_216;
 
 /// Values in order, fewer than 2^32, which contracts see as their list.
 #[derive(Drop)]
-pub struct Listed<T> {
+pub struct Seq32<T> {
     items: Vec<T>,
 }
 
-impl<T> Model for Listed<T> {
+impl<T> Model for Seq32<T> {
     ghost use Rattle.std.specs.Prelude.{List, ◌<◌, ◌^◌, vec_len};
     ghost use Rattle.std.specs.Coded.{coded_list};
 
@@ -153,20 +153,20 @@ impl<T> Model for Listed<T> {
     ghost invariant = { λ a. vec_len a.items < 2 ^ 32 };
 }
 
-impl<T> Listed<T> {
+impl<T> Seq32<T> {
     /// The values of a vector, in its order. Takes no memory.
-    pub fn from_vec(items: Vec<T>) -> Listed<T>
+    pub fn from_vec(items: Vec<T>) -> Seq32<T>
         requires { vec_len items < 2 ^ 32 }
         ensures { result ≡ items.items }
     {
-        Listed { items }
+        Seq32 { items }
     }
 
     /// The vector of the values. Takes no memory.
     pub fn into_vec(self) -> Vec<T>
         ensures { result.items ≡ self }
     {
-        let Listed { items } = self;
+        let Seq32 { items } = self;
         items
     }
 

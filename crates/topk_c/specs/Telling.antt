@@ -8,7 +8,7 @@ pub record Kept : Type 0 where
   pub bytes : List ℕ
   pub faults : ℕ
 
--- a text that couldn't be kept is want of memory
+-- a text that couldn't be kept is lack of memory
 abbrev pub told_status : Status → Status
 told_status WriteFault = Memory
 told_status status = status

@@ -57,7 +57,7 @@ pub(crate) fn judge_certificate(
     told_status(status)
 }
 
-/// How a call ends for the caller: a text that couldn't be kept is want of memory.
+/// How a call ends for the caller: a text that couldn't be kept is lack of memory.
 fn told_status(status: Status) -> Status
     ensures { result ≡ told_status status }
 {

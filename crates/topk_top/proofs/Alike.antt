@@ -20,10 +20,10 @@ use Rattle.query_admission.specs.View.{View, AreTold, is_closed, is_large, diffe
 use Rattle.query_admission.specs.Causes.{most_queries, Cause, admission_causes, Over, ListsGive, RefusesFor, NoneOf, IsFirstOf, line_over}
 use Rattle.query_admission.specs.Admission.{RefusesLine}
 use Rattle.query_admission.specs.Becomes.{Becomes}
-use Rattle.query_admission.specs.declared.lists.Listed.{Listed}
+use Rattle.query_admission.specs.declared.lists.ListInfo.{ListInfo}
 
 -- what a list says of itself, without the number of its source
-abbrev pub plain : Listed → Listed
+abbrev pub plain : ListInfo → ListInfo
 plain list = record list { source = 0 }
 
 -- where tests pass at the same places they first pass at the same place
@@ -43,37 +43,37 @@ position_same p q xs ys e =
     ∙ ap (λ l. cond {A = Option ℕ} (nat_lt (position_or_len q ys) l) (Some (position_or_len q ys)) None) long
 
 -- a test and a size that don't look at the number of the source
-through_plain : (test : Listed → Bool) (xs : List Listed) → ((l : Listed) → test (plain l) ≡ test l) → map test (map plain xs) ≡ map test xs
+through_plain : (test : ListInfo → Bool) (xs : List ListInfo) → ((l : ListInfo) → test (plain l) ≡ test l) → map test (map plain xs) ≡ map test xs
 through_plain test [] same = refl
 through_plain test (x ∷ xs) same = ap (λ b. b ∷ map test (map plain xs)) (same x) ∙ ap (λ bs. test x ∷ bs) (through_plain test xs same)
 
-tested_same : (test : Listed → Bool) (xs ys : List Listed) → ((l : Listed) → test (plain l) ≡ test l) → map plain xs ≡ map plain ys
+tested_same : (test : ListInfo → Bool) (xs ys : List ListInfo) → ((l : ListInfo) → test (plain l) ≡ test l) → map plain xs ≡ map plain ys
     → position test xs ≡ position test ys
 tested_same test xs ys same e = position_same test test xs ys (sym (through_plain test xs same) ∙ ap (map test) e ∙ through_plain test ys same)
 
-size_plain : (xs : List Listed) (place : ℕ) → size_stated (map plain xs) place ≡ size_stated xs place
+size_plain : (xs : List ListInfo) (place : ℕ) → size_stated (map plain xs) place ≡ size_stated xs place
 size_plain [] place = refl
 size_plain (x ∷ xs) zero = refl
 size_plain (x ∷ xs) (suc place) = size_plain xs place
 
-size_same : (xs ys : List Listed) (place : ℕ) → map plain xs ≡ map plain ys → size_stated xs place ≡ size_stated ys place
+size_same : (xs ys : List ListInfo) (place : ℕ) → map plain xs ≡ map plain ys → size_stated xs place ≡ size_stated ys place
 size_same xs ys place e = sym (size_plain xs place) ∙ ap (λ ls. size_stated ls place) e ∙ size_plain ys place
 
-versions_plain : (xs : List Listed) → versions_at (map plain xs) ≡ versions_at xs
+versions_plain : (xs : List ListInfo) → versions_at (map plain xs) ≡ versions_at xs
 versions_plain [] = refl
 versions_plain (x ∷ xs) = ap (λ vs. x.version ∷ vs) (versions_plain xs)
 
-versions_same : (xs ys : List Listed) → map plain xs ≡ map plain ys → versions_at xs ≡ versions_at ys
+versions_same : (xs ys : List ListInfo) → map plain xs ≡ map plain ys → versions_at xs ≡ versions_at ys
 versions_same xs ys e = sym (versions_plain xs) ∙ ap versions_at e ∙ versions_plain ys
 
-sorted_plain : (xs : List Listed) → sorted_at (map plain xs) ≡ sorted_at xs
+sorted_plain : (xs : List ListInfo) → sorted_at (map plain xs) ≡ sorted_at xs
 sorted_plain [] = refl
 sorted_plain (x ∷ xs) = ap (λ bs. x.sorted ∷ bs) (sorted_plain xs)
 
-method_same : (q : Query) (xs ys : List Listed) → map plain xs ≡ map plain ys → method_over q xs ≡ method_over q ys
+method_same : (q : Query) (xs ys : List ListInfo) → map plain xs ≡ map plain ys → method_over q xs ≡ method_over q ys
 method_same q xs ys e = ap (method_with q.algorithm) (sym (sorted_plain xs) ∙ ap sorted_at e ∙ sorted_plain ys)
 
-unread_same : (a : Algorithm) (xs ys : List Listed) → map plain xs ≡ map plain ys → unread_list a xs ≡ unread_list a ys
+unread_same : (a : Algorithm) (xs ys : List ListInfo) → map plain xs ≡ map plain ys → unread_list a xs ≡ unread_list a ys
 unread_same Ta xs ys e = tested_same lacks_sorted xs ys (λ l. refl) e
 unread_same Nra xs ys e = tested_same lacks_sorted xs ys (λ l. refl) e
 unread_same Ca xs ys e = tested_same lacks_sorted xs ys (λ l. refl) e
@@ -83,7 +83,7 @@ unread_same (Early depth) xs ys e = tested_same lacks_sorted xs ys (λ l. refl) 
 unread_same Taz xs ys e = ap (λ (o : Option ℕ). cond {A = Option ℕ} (is_some o) None (Some 0)) (tested_same offers_sorted xs ys (λ l. refl) e)
 
 -- what lists give that say the same
-lists_give : (q : Query) (xs ys : List Listed) → map plain xs ≡ map plain ys → (c : Cause) (refusal : Refusal) → ListsGive q xs c refusal
+lists_give : (q : Query) (xs ys : List ListInfo) → map plain xs ≡ map plain ys → (c : Cause) (refusal : Refusal) → ListsGive q xs c refusal
     → ListsGive q ys c refusal
 lists_give q xs ys e Cause.many_queries refusal g = g
 lists_give q xs ys e Cause.text refusal g = g
@@ -98,23 +98,23 @@ lists_give q xs ys e Cause.no_sorted refusal g = (g.0, g.1, sym (unread_same q.a
 lists_give q xs ys e Cause.room_full refusal g = g
 
 -- lists that are known elsewhere, and say the same
-pub record AlikeLists (known : List ℕ → Option Listed) (q : Query) (xs : List Listed) : Type 0 where
-  pub lists : List Listed
+pub record AlikeLists (known : List ℕ → Option ListInfo) (q : Query) (xs : List ListInfo) : Type 0 where
+  pub lists : List ListInfo
   pub there : map known q.names ≡ map Some lists
   pub same : map plain xs ≡ map plain lists
 
 -- the lists that the query of these bytes names are known here and there, and say the same
-pub record Alike (bytes : List ℕ) (here there : List ℕ → Option Listed) : Type 0 where
+pub record Alike (bytes : List ℕ) (here there : List ℕ → Option ListInfo) : Type 0 where
   pub known : (q : Query) → Reads bytes (Ok q) → map is_none (map here q.names) ≡ map is_none (map there q.names)
-  pub lists : (q : Query) (xs : List Listed) → Reads bytes (Ok q) → map here q.names ≡ map Some xs → AlikeLists there q xs
+  pub lists : (q : Query) (xs : List ListInfo) → Reads bytes (Ok q) → map here q.names ≡ map Some xs → AlikeLists there q xs
 
 -- the rows of lists are told the same where a cause looks at them
 abbrev pub SameTold : View → View → Cause → Type 0
 SameTold V W Cause.room_full = V.told ≡ W.told
 SameTold V W other = Unit {0}
 
-over_alike : (V W : View) (number : ℕ) (bytes : List ℕ) → Alike bytes V.listed W.listed → (P R : Query → List Listed → Type 0)
-    → ((q : Query) (xs ys : List Listed) → map plain xs ≡ map plain ys → P q xs → R q ys)
+over_alike : (V W : View) (number : ℕ) (bytes : List ℕ) → Alike bytes V.listed W.listed → (P R : Query → List ListInfo → Type 0)
+    → ((q : Query) (xs ys : List ListInfo) → map plain xs ≡ map plain ys → P q xs → R q ys)
     → Over (line_over V number bytes) P → Over (line_over W number bytes) R
 over_alike V W number bytes alike P R f over =
     let l = alike.lists over.query over.lists over.reads over.listed in

@@ -29,7 +29,7 @@ use Rattle.query_admission.proofs.Becoming.{answered_line, full_line, refused_li
 use Rattle.query_run.specs.declared.ended.Ended.{Ended}
 use Rattle.query_run.specs.declared.ended.Ended.TheVariants as ended
 use Rattle.query_run.specs.declared.ended.Refusal.TheVariants as refusal
-use Rattle.query_run.specs.declared.inquiry.Inquiry.{Inquiry}
+use Rattle.query_run.specs.declared.running_query.RunningQuery.{RunningQuery}
 use Rattle.query_run.specs.Inquiries.{needed, source_needed, source_of}
 use Rattle.query_run.specs.Causes.{IsAtFault, IsCause}
 use Rattle.query_run.proofs.Serving.{of_some_list, source_there as needs_source}
@@ -69,14 +69,14 @@ tells_move s need.Done had other h = absurd h
 
 module _ (r : CatalogRun) (outcomes : List LineOutcome) (run : IsRun r outcomes) where
   -- the place on the shelf of the source of a query's list
-  abbrev pub text_for : Inquiry → ℕ → List ℕ
+  abbrev pub text_for : RunningQuery → ℕ → List ℕ
   text_for q list = (entry_at r.catalog (slice_index_or run.sources.places (source_of q list) 0)).place
 
-  pub served_all : (q : Inquiry) → Contains run.ran.ran.queries q → IsServed run.ran.ran.states q
+  pub served_all : (q : RunningQuery) → Contains run.ran.ran.queries q → IsServed run.ran.ran.states q
   served_all q c = member_of_all (IsServed run.ran.ran.states) run.ran.ran.queries q run.ran.ran.served c
 
   -- where a query is refused because a call failed, the source of its list is there
-  pub source_there : (what : FailKind) (fault : LookFault) (q : Inquiry) (list : ℕ) → is_fail what fault ≡ true → Contains run.ran.ran.queries q
+  pub source_there : (what : FailKind) (fault : LookFault) (q : RunningQuery) (list : ℕ) → is_fail what fault ≡ true → Contains run.ran.ran.queries q
       → q.refusal ≡ Some (refusal.Look list fault) → source_of q list < length run.sources.counts
   source_there what fault q list is c e =
       let counted = counted_for what fault run.ran.ran.states q list is (served_all q c) e in
@@ -90,7 +90,7 @@ module _ (r : CatalogRun) (outcomes : List LineOutcome) (run : IsRun r outcomes)
   still_many = sym (length_all_zip NoneFell run.begun run.now run.ran.later) ∙ run.ran.many ∙ run.opened.many_told
 
   -- it is open, and what it counted rose
-  pub failed_rose_at : (q : Inquiry) (list : ℕ) → Contains run.ran.ran.queries q → q.refusal ≡ Some (refusal.Look list (why.Call kind.Failed))
+  pub failed_rose_at : (q : RunningQuery) (list : ℕ) → Contains run.ran.ran.queries q → q.refusal ≡ Some (refusal.Look list (why.Call kind.Failed))
       → (source_of q list < length run.sources.places) × Rose (run.mid (text_for q list)).sources.faults (r.after (text_for q list)).sources.faults
   failed_rose_at q list c e =
       let source = source_of q list in
@@ -103,7 +103,7 @@ module _ (r : CatalogRun) (outcomes : List LineOutcome) (run : IsRun r outcomes)
       let some = calls_behind kind.Failed (why.Call kind.Failed) run.ran.ran.states run.ran.ran.queries q list r.settings.workers _ _ _ refl (served_all q c) c e counted.failed in
       (within, rose_faults _ run.mid r.after (text_for q list) _ run.back (counted_back r.catalog run.sources.places run.now source within inside) some)
 
-  pub garbled_rose_at : (q : Inquiry) (list : ℕ) → Contains run.ran.ran.queries q → q.refusal ≡ Some (refusal.Look list (why.Call kind.Garbled))
+  pub garbled_rose_at : (q : RunningQuery) (list : ℕ) → Contains run.ran.ran.queries q → q.refusal ≡ Some (refusal.Look list (why.Call kind.Garbled))
       → (source_of q list < length run.sources.places) × Rose (run.mid (text_for q list)).sources.garbles (r.after (text_for q list)).sources.garbles
   garbled_rose_at q list c e =
       let source = source_of q list in
@@ -118,7 +118,7 @@ module _ (r : CatalogRun) (outcomes : List LineOutcome) (run : IsRun r outcomes)
 
   -- where a query is refused because a list was replaced, the log of its source tells this, what the source counted rose, and the version that it had is the
   -- one at hand
-  pub moved_rose_at : (q : Inquiry) (list had other : ℕ) → Contains run.ran.ran.queries q → q.refusal ≡ Some (refusal.Look list (why.Source (fault.Moved had other)))
+  pub moved_rose_at : (q : RunningQuery) (list had other : ℕ) → Contains run.ran.ran.queries q → q.refusal ≡ Some (refusal.Look list (why.Source (fault.Moved had other)))
       → (source_of q list < length run.sources.places) × Rose (run.mid (text_for q list)).sources.moves (r.after (text_for q list)).sources.moves
       × (had ≡ version_at run.sources.versions (source_of q list))
   moved_rose_at q list had other c e =
@@ -155,7 +155,7 @@ module _ (r : CatalogRun) (outcomes : List LineOutcome) (run : IsRun r outcomes)
     calm : (place : ℕ) → IsWanted r.catalog r.lines place → TroubleAt (r.before (entry_at r.catalog place).place) (r.after (entry_at r.catalog place).place) → ⊥
     calm = tells.untroubled
 
-    wanted_source : (q : Inquiry) (list : ℕ) → source_of q list < length run.sources.places
+    wanted_source : (q : RunningQuery) (list : ℕ) → source_of q list < length run.sources.places
         → IsWanted r.catalog r.lines (slice_index_or run.sources.places (source_of q list) 0)
     wanted_source q list within = open_wanted r.lists r.versions r.catalog (IsWanted r.catalog r.lines) r.before run.mid run.openings run.sources run.opened (source_of q list) within
 
@@ -163,12 +163,12 @@ module _ (r : CatalogRun) (outcomes : List LineOutcome) (run : IsRun r outcomes)
     troubled : (text : List ℕ) → TroubleAt (run.mid text) (r.after text) → TroubleAt (r.before text) (r.after text)
     troubled text trouble = trouble_from (r.before text) (run.mid text) (r.after text) (moves_at run.opened.used r.before run.mid text run.opened.moves) trouble
 
-    none_failed : (q : Inquiry) (list : ℕ) → Contains run.ran.ran.queries q → q.refusal ≡ Some (refusal.Look list (why.Call kind.Failed)) → ⊥
+    none_failed : (q : RunningQuery) (list : ℕ) → Contains run.ran.ran.queries q → q.refusal ≡ Some (refusal.Look list (why.Call kind.Failed)) → ⊥
     none_failed q list c e =
         let h = failed_rose_at q list c e in
         calm (slice_index_or run.sources.places (source_of q list) 0) (wanted_source q list h.0) (troubled (text_for q list) (inr (inl h.1)))
 
-    none_garbled : (q : Inquiry) (list : ℕ) → Contains run.ran.ran.queries q → q.refusal ≡ Some (refusal.Look list (why.Call kind.Garbled)) → ⊥
+    none_garbled : (q : RunningQuery) (list : ℕ) → Contains run.ran.ran.queries q → q.refusal ≡ Some (refusal.Look list (why.Call kind.Garbled)) → ⊥
     none_garbled q list c e =
         let h = garbled_rose_at q list c e in
         calm (slice_index_or run.sources.places (source_of q list) 0) (wanted_source q list h.0) (troubled (text_for q list) (inr (inr h.1)))
@@ -241,7 +241,7 @@ module _ (r : CatalogRun) (outcomes : List LineOutcome) (run : IsRun r outcomes)
     ended_becomes number bytes ready D (ended.Look list fault) outcome admitted told over is = absurd over
 
     -- a query that ran ended over its lists
-    ends_there : (ready : ReadyQuery) (q : Inquiry) (e : Ended) → (has : HasLists r (lists_told r outcomes run tells) ready) → IsOf ready q
+    ends_there : (ready : ReadyQuery) (q : RunningQuery) (e : Ended) → (has : HasLists r (lists_told r outcomes run tells) ready) → IsOf ready q
         → Contains run.ran.ran.queries q → EndsAs q e → EndsOver has.D ready e
     ends_there ready q e has of c ends =
         let lists = lists_told r outcomes run tells in
@@ -252,7 +252,7 @@ module _ (r : CatalogRun) (outcomes : List LineOutcome) (run : IsRun r outcomes)
         (ends_over lists run.ran.ran.states ready q (served_all q c) of (subst (IsTable ready.count) same has.table) on.agrees on
         (λ list is. none_failed q list c is) (λ list is. none_garbled q list c is) spared e ends)
 
-    run_becomes : (at : ℕ) (bytes : List ℕ) (o : LineOutcome) (q : Inquiry) → slice_get r.lines at ≡ Some bytes → Contains run.ran.ran.queries q
+    run_becomes : (at : ℕ) (bytes : List ℕ) (o : LineOutcome) (q : RunningQuery) → slice_get r.lines at ≡ Some bytes → Contains run.ran.ran.queries q
         → IsLineRun V q (at + 1) bytes o → Becomes (line_over W (at + 1) bytes) o.query o.count o.versions o.outcome
     run_becomes at bytes o q line c is =
         let has = has_lists r outcomes run tells at bytes is.ready line is.admitted in
@@ -265,9 +265,9 @@ module _ (r : CatalogRun) (outcomes : List LineOutcome) (run : IsRun r outcomes)
         (subst (λ versions. Becomes (line_over W (at + 1) bytes) (Some is.ready.query) is.ready.count versions o.outcome) (sym is.outcome.versions) moved))
 
     -- the lines from one on
-    all_become : (at : ℕ) (queries : List Inquiry) (lines : List (List ℕ)) (others : List LineOutcome)
+    all_become : (at : ℕ) (queries : List RunningQuery) (lines : List (List ℕ)) (others : List LineOutcome)
         → ((i : ℕ) (bytes : List ℕ) → slice_get lines i ≡ Some bytes → slice_get r.lines (at + i) ≡ Some bytes)
-        → ((q : Inquiry) → Contains queries q → Contains run.ran.ran.queries q)
+        → ((q : RunningQuery) → Contains queries q → Contains run.ran.ran.queries q)
         → AreOutcomes V queries (at + 1) lines others → AllBecome W (at + 1) lines others
     all_become at queries [] [] lines_are there are = tt
     all_become at queries [] (o ∷ others) lines_are there are = absurd are
@@ -280,7 +280,7 @@ module _ (r : CatalogRun) (outcomes : List LineOutcome) (run : IsRun r outcomes)
         elim are [
           | inl refused ↦ (refused_becomes at bytes o line refused.0, all_become (at + 1) queries lines others rest there refused.1)
           | inr ran ↦
-              let all : (q : Inquiry) → Contains (ran.0 ∷ ran.1) q → Contains run.ran.ran.queries q = λ q c. there q (subst (λ qs. Contains qs q) (sym ran.2) c) in (
+              let all : (q : RunningQuery) → Contains (ran.0 ∷ ran.1) q → Contains run.ran.ran.queries q = λ q c. there q (subst (λ qs. Contains qs q) (sym ran.2) c) in (
                 run_becomes at bytes o ran.0 line (all ran.0 (contains_here ran.0 ran.1)) ran.3,
                 all_become (at + 1) ran.1 lines others rest (λ q c. all q (contains_there ran.0 ran.1 q c)) ran.4,
               )

@@ -20,7 +20,7 @@ ends_refused c result alone said = elim said [
   | inr front ↦ subst (λ s. EndsRefused c s) (sym front.0) (alone, record { held = front.1; faults = front.2 })
 ]
 
--- memory may be wanting before the words are known
+-- memory may run out before the words are known
 pub ends_without_memory : (command : Option Command) (c : Call) (p : Ports) → KeepsPort p → KeepsShelf c → LeftAlone c → WroteNothing c
     → CommandEnds command c p Memory
 ends_without_memory None c p port kept alone nothing = (port, kept, (alone, nothing))

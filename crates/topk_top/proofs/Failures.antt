@@ -27,14 +27,14 @@ use Rattle.query_core.specs.declared.ready.Ready.{Ready as ReadyQuery}
 use Rattle.query_admission.specs.View.{View, is_closed}
 use Rattle.query_admission.specs.Causes.{most_queries, Cause, admission_causes, text_refusal, Over, ListsGive, RefusesFor, line_over}
 use Rattle.query_admission.specs.Admission.{RefusesLine, IsAdmitted}
-use Rattle.query_admission.specs.declared.lists.Listed.{Listed}
+use Rattle.query_admission.specs.declared.lists.ListInfo.{ListInfo}
 use Rattle.query_admission.proofs.Admitting.{read_once}
 use Rattle.query_admission.proofs.Positions.{found_passes, found_within, nothing}
 use Rattle.query_admission.proofs.ReadyLists.{admitted_states}
 use Rattle.query_run.specs.declared.ended.Ended.{Ended}
 use Rattle.query_run.specs.declared.ended.Ended.TheVariants as ended
 use Rattle.query_run.specs.declared.ended.Refusal.TheVariants as refusal
-use Rattle.query_run.specs.declared.inquiry.Inquiry.{Inquiry}
+use Rattle.query_run.specs.declared.running_query.RunningQuery.{RunningQuery}
 use Rattle.query_run.specs.Inquiries.{source_of}
 use Rattle.query_run.specs.Endings.{EndsAs}
 use Rattle.query_run.specs.Kept.{IsServed}
@@ -72,14 +72,14 @@ place_there catalog (n ∷ ns) (p ∷ ps) (suc list) e l =
     place_there catalog ns ps list rest (omega (arith, l))
 
 -- what is said of a list by its place
-pub said_there : (says : ℕ → Listed) (places : List ℕ) (list : ℕ) → list < length places
+pub said_there : (says : ℕ → ListInfo) (places : List ℕ) (list : ℕ) → list < length places
     → slice_index_or (map says places) list nothing ≡ says (slice_index_or places list 0)
 said_there says [] list l = absurd (omega (arith, l))
 said_there says (p ∷ ps) zero l = refl
 said_there says (p ∷ ps) (suc list) l = said_there says ps list (omega (arith, l))
 
-pub source_there : (says : ℕ → Listed) (places : List ℕ) (list : ℕ) → list < length places
-    → slice_index_or (map (λ (l : Listed). l.source) (map says places)) list 0 ≡ (says (slice_index_or places list 0)).source
+pub source_there : (says : ℕ → ListInfo) (places : List ℕ) (list : ℕ) → list < length places
+    → slice_index_or (map (λ (l : ListInfo). l.source) (map says places)) list 0 ≡ (says (slice_index_or places list 0)).source
 source_there says [] list l = absurd (omega (arith, l))
 source_there says (p ∷ ps) zero l = refl
 source_there says (p ∷ ps) (suc list) l = source_there says ps list (omega (arith, l))
@@ -126,7 +126,7 @@ some_query None list named = absurd (let l = named 0 0 (omega arith) in omega (a
 some_query (Some q) list named = (q, refl)
 
 module _ (r : CatalogRun) (outcomes : List LineOutcome) (run : IsRun r outcomes) where
-  abbrev says : ℕ → Listed
+  abbrev says : ℕ → ListInfo
   says = listed_at r.catalog run.openings
 
   abbrev U : View
@@ -156,7 +156,7 @@ module _ (r : CatalogRun) (outcomes : List LineOutcome) (run : IsRun r outcomes)
       let places = known_places r.catalog says q.names g.lists g.listed in
       let closed : is_closed (slice_index_or g.lists h.0 nothing) ≡ true = found_passes is_closed g.lists h.0 h.2 in
       let within : h.0 < length g.lists = found_within is_closed g.lists h.0 h.2 in
-      let lists_long : length g.lists ≡ length places.places = ap (length {A = Listed}) places.said ∙ length-map places.places says in
+      let lists_long : length g.lists ≡ length places.places = ap (length {A = ListInfo}) places.said ∙ length-map places.places says in
       let inside : h.0 < length places.places = omega (arith, within, lists_long) in
       let place = slice_index_or places.places h.0 0 in
       let text = (entry_at r.catalog place).place in
@@ -164,7 +164,7 @@ module _ (r : CatalogRun) (outcomes : List LineOutcome) (run : IsRun r outcomes)
       let wanted : IsWanted r.catalog r.lines place = named_wanted r.catalog r.lines at bytes q places.places line few g.reads places.known place named in
       let in_catalog : place < length r.catalog = member_of_all (λ p. p < length r.catalog) places.places place (places_within r.catalog q.names places.places places.known) named in
       let closed_place : is_closed (says place) ≡ true =
-      subst (λ (l : Listed). is_closed l ≡ true) (ap (λ (ls : List Listed). slice_index_or ls h.0 nothing) places.said ∙ said_there says places.places h.0 inside) closed in
+      subst (λ (l : ListInfo). is_closed l ≡ true) (ap (λ (ls : List ListInfo). slice_index_or ls h.0 nothing) places.said ∙ said_there says places.places h.0 inside) closed in
       let trouble = closed_trouble place wanted in_catalog closed_place in
       let names_long = many_places r.catalog q.names places.places places.known in
       let at_place : place_at r.catalog q h.0 ≡ Some text = ap (option_map (λ entry. (entry_at r.catalog entry).place)) (place_there r.catalog q.names places.places h.0 places.known (omega (arith, inside, names_long))) in
@@ -211,26 +211,26 @@ module _ (r : CatalogRun) (outcomes : List LineOutcome) (run : IsRun r outcomes)
   stood place n sized = stood_open r (of_run r outcomes run) place n sized
 
   -- the list of a query that ran
-  pub ran_at : (at : ℕ) (bytes : List ℕ) (q : Inquiry) (ready : ReadyQuery) (list : ℕ) → IsAdmitted (line_over U (at + 1) bytes) ready → IsOf ready q
+  pub ran_at : (at : ℕ) (bytes : List ℕ) (q : RunningQuery) (ready : ReadyQuery) (list : ℕ) → IsAdmitted (line_over U (at + 1) bytes) ready → IsOf ready q
       → list < length ready.query.names → place_at r.catalog ready.query list ≡ Some (text_for r outcomes run q list)
   ran_at at bytes q ready list admitted of l =
       let names = ready.query.names in
       let places = known_places r.catalog says names admitted.lists admitted.listed in
       let names_long = many_places r.catalog names places.places places.known in
       let inside : list < length places.places = omega (arith, l, names_long) in
-      let lists_long : length admitted.lists ≡ length places.places = ap (length {A = Listed}) places.said ∙ length-map places.places says in
+      let lists_long : length admitted.lists ≡ length places.places = ap (length {A = ListInfo}) places.said ∙ length-map places.places says in
       let place = slice_index_or places.places list 0 in
       let source_is : source_of q list ≡ (says place).source =
-      ap (λ (sources : List ℕ). slice_index_or sources list 0) (of.sources ∙ sym admitted.sources ∙ ap (map (λ (l : Listed). l.source)) places.said)
+      ap (λ (sources : List ℕ). slice_index_or sources list 0) (of.sources ∙ sym admitted.sources ∙ ap (map (λ (l : ListInfo). l.source)) places.said)
       ∙ source_there says places.places list inside in
       let states : (slice_index_or admitted.lists list nothing).size ≡ Some ready.count = admitted_states (line_over U (at + 1) bytes) ready admitted list (omega (arith, inside, lists_long)) in
       let sized : (says place).size ≡ Some ready.count =
-      subst (λ (l : Listed). l.size ≡ Some ready.count) (ap (λ (ls : List Listed). slice_index_or ls list nothing) places.said ∙ said_there says places.places list inside) states in
+      subst (λ (l : ListInfo). l.size ≡ Some ready.count) (ap (λ (ls : List ListInfo). slice_index_or ls list nothing) places.said ∙ said_there says places.places list inside) states in
       let stands : slice_index_or run.sources.places (says place).source 0 ≡ place = stood place ready.count sized in
       ap (option_map (λ entry. (entry_at r.catalog entry).place)) (place_there r.catalog names places.places list places.known l)
       ∙ ap (λ p. Some (entry_at r.catalog p).place) (sym (ap (λ source. slice_index_or run.sources.places source 0) source_is ∙ stands))
 
-  pub ran_list : (q : Inquiry) (ready : ReadyQuery) (list : ℕ) (f : LookFault) → IsServed run.ran.ran.states q → IsOf ready q
+  pub ran_list : (q : RunningQuery) (ready : ReadyQuery) (list : ℕ) (f : LookFault) → IsServed run.ran.ran.states q → IsOf ready q
       → q.refusal ≡ Some (refusal.Look list f) → list < length ready.query.names
   ran_list q ready list f served of e =
       let there = refused_there run.ran.ran.states q list f served e in
@@ -239,7 +239,7 @@ module _ (r : CatalogRun) (outcomes : List LineOutcome) (run : IsRun r outcomes)
       omega (arith, l, many)
 
   -- the version that is at hand of the source of a query's list is the one that its line names
-  named_version : (at : ℕ) (bytes : List ℕ) (o : LineOutcome) (q : Inquiry) (ready : ReadyQuery) (list other : ℕ)
+  named_version : (at : ℕ) (bytes : List ℕ) (o : LineOutcome) (q : RunningQuery) (ready : ReadyQuery) (list other : ℕ)
       → IsAdmitted (line_over U (at + 1) bytes) ready → IsOf ready q → o.versions ≡ ready.versions.items → other ≡ list → other < length ready.query.names
       → version_at run.sources.versions (source_of q other) ≡ slice_index_or o.versions list 0
   named_version at bytes o q ready list other admitted of held number l =
@@ -251,7 +251,7 @@ module _ (r : CatalogRun) (outcomes : List LineOutcome) (run : IsRun r outcomes)
       ∙ (ap (λ (vs : List ℕ). slice_index_or vs other 0) (sym versions) ∙ ap (λ n. slice_index_or o.versions n 0) number))
 
   -- a query that ran and is refused because a call failed
-  ran_why : (at : ℕ) (bytes : List ℕ) (o : LineOutcome) (q : Inquiry) (ready : ReadyQuery) (e : Ended) (refusal : Refusal) (list : ℕ)
+  ran_why : (at : ℕ) (bytes : List ℕ) (o : LineOutcome) (q : RunningQuery) (ready : ReadyQuery) (e : Ended) (refusal : Refusal) (list : ℕ)
       → IsAdmitted (line_over U (at + 1) bytes) ready → IsOf ready q → IsServed run.ran.ran.states q → Contains run.ran.ran.queries q → EndsAs q e
       → o.query ≡ Some ready.query → o.versions ≡ ready.versions.items → ended_outcome e ≡ Some (Refused refusal) → failed_list refusal ≡ Some list → HasFailedAt r run.mid o refusal list
   ran_why at bytes o q ready (ended.Answered answer) refusal list admitted of served c ends is held e fails = absurd (answered_refused answer refusal e)
@@ -319,15 +319,15 @@ module _ (r : CatalogRun) (outcomes : List LineOutcome) (run : IsRun r outcomes)
         had = subst (NamesVersion (slice_index_or o.versions list 0)) same tt;
       }
 
-  line_ran : (at : ℕ) (bytes : List ℕ) (o : LineOutcome) (q : Inquiry) → Contains run.ran.ran.queries q → IsLineRun U q (at + 1) bytes o → HasFailure r run.mid o
+  line_ran : (at : ℕ) (bytes : List ℕ) (o : LineOutcome) (q : RunningQuery) → Contains run.ran.ran.queries q → IsLineRun U q (at + 1) bytes o → HasFailure r run.mid o
   line_ran at bytes o q c is = λ refusal list e fails.
       ran_why at bytes o q is.ready is.ended refusal list is.admitted is.of (served_all r outcomes run q c) c is.ends is.outcome.query is.outcome.versions
       (is.outcome.outcome ∙ ap Some e) fails
 
   -- the lines from one on
-  all_failures : (at : ℕ) (queries : List Inquiry) (lines : List (List ℕ)) (others : List LineOutcome)
+  all_failures : (at : ℕ) (queries : List RunningQuery) (lines : List (List ℕ)) (others : List LineOutcome)
       → ((i : ℕ) (bytes : List ℕ) → slice_get lines i ≡ Some bytes → slice_get r.lines (at + i) ≡ Some bytes)
-      → ((q : Inquiry) → Contains queries q → Contains run.ran.ran.queries q)
+      → ((q : RunningQuery) → Contains queries q → Contains run.ran.ran.queries q)
       → AreOutcomes U queries (at + 1) lines others → AllByRecursion (HasFailure r run.mid) others
   all_failures at queries [] [] lines_are there are = tt
   all_failures at queries [] (o ∷ others) lines_are there are = absurd are
@@ -340,7 +340,7 @@ module _ (r : CatalogRun) (outcomes : List LineOutcome) (run : IsRun r outcomes)
       elim are [
         | inl refused ↦ (line_refused at bytes o line refused.0, all_failures (at + 1) queries lines others rest there refused.1)
         | inr ran ↦
-            let all : (q : Inquiry) → Contains (ran.0 ∷ ran.1) q → Contains run.ran.ran.queries q = λ q c. there q (subst (λ qs. Contains qs q) (sym ran.2) c) in (
+            let all : (q : RunningQuery) → Contains (ran.0 ∷ ran.1) q → Contains run.ran.ran.queries q = λ q c. there q (subst (λ qs. Contains qs q) (sym ran.2) c) in (
               line_ran at bytes o ran.0 (all ran.0 (contains_here ran.0 ran.1)) ran.3,
               all_failures (at + 1) ran.1 lines others rest (λ q c. all q (contains_there ran.0 ran.1 q c)) ran.4,
             )

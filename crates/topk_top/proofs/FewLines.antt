@@ -32,7 +32,7 @@ use Rattle.query_run.specs.declared.ended.Ended.{Ended}
 use Rattle.query_run.specs.declared.ended.Ended.TheVariants as ended
 use Rattle.query_run.specs.declared.ended.Refusal.{Refusal as QueryRefusal}
 use Rattle.query_run.specs.declared.ended.Refusal.TheVariants as refusal
-use Rattle.query_run.specs.declared.inquiry.Inquiry.{Inquiry}
+use Rattle.query_run.specs.declared.running_query.RunningQuery.{RunningQuery}
 use Rattle.query_run.specs.Inquiries.{source_of, source_needed}
 use Rattle.query_run.specs.Endings.{EndsAs}
 use Rattle.query_run.specs.Made.{IsOf}
@@ -55,7 +55,7 @@ use Rattle.topk_top.proofs.Failures.{of_text, ran_at, ran_list}
 
 -- ---- lines and queries
 -- a query that is refused so because a call failed so, of a source that stands so
-abbrev fails_at : FailKind → (ℕ → List ℕ) → List ℕ → Inquiry → Option QueryRefusal → Bool
+abbrev fails_at : FailKind → (ℕ → List ℕ) → List ℕ → RunningQuery → Option QueryRefusal → Bool
 fails_at what text place q None = false
 fails_at what text place q (Some (refusal.Core fault)) = false
 fails_at what text place q (Some (refusal.Look list fault)) = is_fail what fault && bytes_eq (text (source_of q list)) place
@@ -123,7 +123,7 @@ module _ (r : CatalogRun) (outcomes : List LineOutcome) (run : IsRun r outcomes)
   text_of source = (entry_at r.catalog (slice_index_or run.sources.places source 0)).place
 
   -- a call of a kind
-  called : (q : Inquiry) (ready : ReadyQuery) (list : ℕ) (fault : LookFault) (refused : Refusal) → says refused ≡ is_fail what fault
+  called : (q : RunningQuery) (ready : ReadyQuery) (list : ℕ) (fault : LookFault) (refused : Refusal) → says refused ≡ is_fail what fault
       → failed_list refused ≡ Some list → q.refusal ≡ Some (refusal.Look list fault)
       → place_at r.catalog ready.query list ≡ Some (text_for r outcomes run q list)
       → refused_at r.catalog says place (Some ready.query) (Refused refused) ≡ true → fails_at what text_of place q q.refusal ≡ true
@@ -135,7 +135,7 @@ module _ (r : CatalogRun) (outcomes : List LineOutcome) (run : IsRun r outcomes)
       ap (fails_at what text_of place q) ends ∙ sym here ∙ counted
 
   -- a line whose query ended so
-  ended_at : (at : ℕ) (bytes : List ℕ) (q : Inquiry) (ready : ReadyQuery) (e : Ended) (outcome : Outcome) → IsAdmitted (line_over X (at + 1) bytes) ready
+  ended_at : (at : ℕ) (bytes : List ℕ) (q : RunningQuery) (ready : ReadyQuery) (e : Ended) (outcome : Outcome) → IsAdmitted (line_over X (at + 1) bytes) ready
       → IsOf ready q → Contains run.ran.ran.queries q → EndsAs q e → ended_outcome e ≡ Some outcome
       → refused_at r.catalog says place (Some ready.query) outcome ≡ true → fails_at what text_of place q q.refusal ≡ true
   ended_at at bytes q ready (ended.Answered answer) outcome admitted of c ends e counted =
@@ -171,7 +171,7 @@ module _ (r : CatalogRun) (outcomes : List LineOutcome) (run : IsRun r outcomes)
       ap (refused_at r.catalog says place o.query) line.outcome
       ∙ early r.catalog says what is place o.query (line_over X (at + 1) bytes) line.refused.first.cause line.refusal line.refused.first.gives
 
-  line_ran : (at : ℕ) (bytes : List ℕ) (o : LineOutcome) (q : Inquiry) → Contains run.ran.ran.queries q → IsLineRun X q (at + 1) bytes o
+  line_ran : (at : ℕ) (bytes : List ℕ) (o : LineOutcome) (q : RunningQuery) → Contains run.ran.ran.queries q → IsLineRun X q (at + 1) bytes o
       → is_refused_at r.catalog says place o ≡ true → fails_at what text_of place q q.refusal ≡ true
   line_ran at bytes o q c line counted =
       ended_at at bytes q line.ready line.ended o.outcome line.admitted line.of c line.ends line.outcome.outcome
@@ -180,12 +180,12 @@ module _ (r : CatalogRun) (outcomes : List LineOutcome) (run : IsRun r outcomes)
   abbrev refused_here : LineOutcome → Bool
   refused_here o = is_refused_at r.catalog says place o
 
-  abbrev fails_here : Inquiry → Bool
+  abbrev fails_here : RunningQuery → Bool
   fails_here q = fails_at what text_of place q q.refusal
 
   -- the lines from one on
-  lines_upto : (at : ℕ) (queries : List Inquiry) (lines : List (List ℕ)) (others : List LineOutcome)
-      → ((q : Inquiry) → Contains queries q → Contains run.ran.ran.queries q)
+  lines_upto : (at : ℕ) (queries : List RunningQuery) (lines : List (List ℕ)) (others : List LineOutcome)
+      → ((q : RunningQuery) → Contains queries q → Contains run.ran.ran.queries q)
       → AreOutcomes X queries (at + 1) lines others → count_by refused_here others ≤ count_by fails_here queries
   lines_upto at queries [] [] there are = omega arith
   lines_upto at queries [] (o ∷ others) there are = absurd are
@@ -196,7 +196,7 @@ module _ (r : CatalogRun) (outcomes : List LineOutcome) (run : IsRun r outcomes)
         omega (arith, rest, count_no refused_here o others (line_refused at bytes o refused.0))
     | inr ran ↦
         let q = ran.0 in
-        let all : (p : Inquiry) → Contains (q ∷ ran.1) p → Contains run.ran.ran.queries p = λ p c. there p (subst (λ qs. Contains qs p) (sym ran.2) c) in
+        let all : (p : RunningQuery) → Contains (q ∷ ran.1) p → Contains run.ran.ran.queries p = λ p c. there p (subst (λ qs. Contains qs p) (sym ran.2) c) in
         let rest = lines_upto (at + 1) ran.1 lines others (λ p c. all p (contains_there q ran.1 p c)) ran.4 in
         subst (λ qs. count_by refused_here (o ∷ others) ≤ count_by fails_here qs) (sym ran.2)
         (elim (cases_Bool (refused_here o)) [
@@ -208,12 +208,12 @@ module _ (r : CatalogRun) (outcomes : List LineOutcome) (run : IsRun r outcomes)
 
 -- ---- queries and sources
 -- a query is refused for a source at a place, the sources being numbered from one on
-abbrev fails_of : FailKind → List Entry → List ℕ → List ℕ → ℕ → Inquiry → Bool
+abbrev fails_of : FailKind → List Entry → List ℕ → List ℕ → ℕ → RunningQuery → Bool
 fails_of what catalog place [] first q = false
 fails_of what catalog place (p ∷ ps) first q = (bytes_eq (entry_at catalog p).place place && is_refused_for what first q) || fails_of what catalog place ps (suc first) q
 
 -- one of them
-one_of : (what : FailKind) (catalog : List Entry) (place : List ℕ) (places : List ℕ) (first source : ℕ) (q : Inquiry) → source < length places
+one_of : (what : FailKind) (catalog : List Entry) (place : List ℕ) (places : List ℕ) (first source : ℕ) (q : RunningQuery) → source < length places
     → bytes_eq (entry_at catalog (slice_index_or places source 0)).place place ≡ true → is_refused_for what (first + source) q ≡ true
     → fails_of what catalog place places first q ≡ true
 one_of what catalog place [] first source q l at refused = absurd (omega (arith, l))
@@ -276,7 +276,7 @@ up_to_source workers lines calls before now few =
     ]
 
 -- the sources at a place, by what they have counted
-module _ (what : FailKind) (f : Counts → ℕ) (catalog : List Entry) (place : List ℕ) (workers : ℕ) (queries : List Inquiry) where
+module _ (what : FailKind) (f : Counts → ℕ) (catalog : List Entry) (place : List ℕ) (workers : ℕ) (queries : List RunningQuery) where
   all_sources : (places : List ℕ) (now : List Counts) (first : ℕ) → length now ≡ length places
       → ((source : ℕ) → source < length places → UpTo workers (count_by (is_refused_for what (first + source)) queries) (f (counts_at now source)))
       → UpTo workers (count_by (fails_of what catalog place places first) queries) (sum_by f (used_at place (put_back catalog places now)))
@@ -320,7 +320,7 @@ sum_turned f place (u ∷ used) =
 
 module _ (r : CatalogRun) (outcomes : List LineOutcome) (run : IsRun r outcomes) (says : Refusal → Bool) (what : FailKind) (is : SaysOf says what) (place : List ℕ) where
   -- a query that is refused at a place is refused for one of its sources
-  found : (q : Inquiry) (x : Option QueryRefusal) → Contains run.ran.ran.queries q → q.refusal ≡ x
+  found : (q : RunningQuery) (x : Option QueryRefusal) → Contains run.ran.ran.queries q → q.refusal ≡ x
       → fails_at what (text_of r outcomes run says what is place) place q x ≡ true → fails_of what r.catalog place run.sources.places 0 q ≡ true
   found q None c e fails = absurd (false≢true fails)
   found q (Some (refusal.Core fault)) c e fails = absurd (false≢true fails)

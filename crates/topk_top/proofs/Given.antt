@@ -7,7 +7,7 @@ use Rattle.source_api.specs.declared.counts.Counts.{Counts}
 use Rattle.source_api.specs.Counting.{added, no_counts, raised}
 use Rattle.source_state.specs.State.{State, IsSound, state_at}
 use Rattle.source_state.specs.Looking.{reach_of}
-use Rattle.query_run.specs.declared.inquiry.Inquiry.{Inquiry}
+use Rattle.query_run.specs.declared.running_query.RunningQuery.{RunningQuery}
 use Rattle.fetcher.specs.Metering.{WentUp}
 use Rattle.fetcher.proofs.ReachLaws.{reach_within}
 use Rattle.topk_base.specs.declared.settings.Settings.{Settings}
@@ -19,7 +19,7 @@ use Rattle.batch_result.specs.Using.{IsNamedBy, IsUsed}
 use Rattle.catalog_open.specs.Openings.{IsUnread, added_all, put_back, used_at}
 use Rattle.query_admission.specs.declared.line_outcome.LineOutcome.{LineOutcome}
 use Rattle.catalog_run.specs.Runs.{CatalogRun, IsRun}
-use Rattle.catalog_run.specs.Cut.{IsCutRun}
+use Rattle.catalog_run.specs.Cut.{RanOutOfMemory}
 use Rattle.topk_top.specs.Giving.{GaveWhatIsAsked, RoseByGiven}
 use Rattle.topk_top.proofs.FewLines.{sum_turned}
 use Rattle.topk_top.proofs.OpenedRuns.{OpenedRun}
@@ -37,8 +37,8 @@ numbered r outcomes run source within =
     let begun_long = run.ran.many in
     (omega (arith, within, counts_long), omega (arith, within, told_long, begun_long))
 
--- the same where memory was wanting
-pub cut_numbered : (r : CatalogRun) (cut : IsCutRun r) (source : ℕ) → source < length cut.sources.places
+-- the same where memory ran out
+pub cut_numbered : (r : CatalogRun) (cut : RanOutOfMemory r) (source : ℕ) → source < length cut.sources.places
     → (source < length cut.sources.counts) × (source < length cut.begun)
 cut_numbered r cut source within =
     let counts_long = cut.opened.many_counts in
@@ -47,7 +47,7 @@ cut_numbered r cut source within =
     (omega (arith, within, counts_long), omega (arith, within, told_long, begun_long))
 
 -- by what was used of a source that had given nothing, and its closing state
-gave_used : (settings : Settings) (queries : List Inquiry) (source size : ℕ) (s : State) (before now : Counts) (used : Use) → IsUnread before
+gave_used : (settings : Settings) (queries : List RunningQuery) (source size : ℕ) (s : State) (before now : Counts) (used : Use) → IsUnread before
     → s.count ≡ size → (sound : IsSound s) → IsUsed settings queries source s before now used
     → GaveWhatIsAsked settings queries source size now
 gave_used settings queries source size s before now used unread count sound is =
@@ -70,7 +70,7 @@ gave_used settings queries source size s before now used unread count sound is =
           (omega (arith, fits, small));
     }
 
-pub cut_gave_what_is_asked : (r : CatalogRun) (cut : IsCutRun r) → (source : ℕ) → source < length cut.sources.places
+pub cut_gave_what_is_asked : (r : CatalogRun) (cut : RanOutOfMemory r) → (source : ℕ) → source < length cut.sources.places
     → GaveWhatIsAsked r.settings (begun_of cut.read.cut.stood) source (size_at cut.sources.counts source) (counts_at cut.now source)
 cut_gave_what_is_asked r cut source within =
     let b = cut.read.cut in

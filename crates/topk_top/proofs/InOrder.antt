@@ -6,7 +6,7 @@ use Rattle.query_core.specs.Methods.{method_with}
 use Rattle.query_core.specs.Ready.{method_of_ready}
 use Rattle.query_admission.specs.View.{sorted_at}
 use Rattle.query_admission.specs.Admission.{IsAdmitted}
-use Rattle.query_admission.specs.declared.lists.Listed.{Listed}
+use Rattle.query_admission.specs.declared.lists.ListInfo.{ListInfo}
 use Rattle.catalog_text.specs.Catalog.{Listed as Entry}
 use Rattle.catalog_open.specs.declared.opened.Opening.{Opening}
 use Rattle.catalog_open.specs.declared.opened.Opening.TheVariants.{Closed, Open}
@@ -20,13 +20,13 @@ pub said_sorted : (entry : Entry) (o : Opening) → (said_of entry o).sorted ≡
 said_sorted entry Closed = refl
 said_sorted entry (Open size source version) = refl
 
-named_sorted : (catalog : List Entry) (openings : List Opening) (o : Option ℕ) (l : Listed) → option_map (listed_at catalog openings) o ≡ Some l
+named_sorted : (catalog : List Entry) (openings : List Opening) (o : Option ℕ) (l : ListInfo) → option_map (listed_at catalog openings) o ≡ Some l
     → l.sorted ≡ unwrap_or (option_map (λ place. (entry_at catalog place).sorted) o) false
 named_sorted catalog openings None l e = absurd cc
 named_sorted catalog openings (Some place) l e =
-    sym (ap (λ (k : Listed). k.sorted) (same_Some (listed_at catalog openings place) l e)) ∙ said_sorted (entry_at catalog place) (opening_at openings place)
+    sym (ap (λ (k : ListInfo). k.sorted) (same_Some (listed_at catalog openings place) l e)) ∙ said_sorted (entry_at catalog place) (opening_at openings place)
 
-all_sorted : (catalog : List Entry) (openings : List Opening) (names : List (List ℕ)) (lists : List Listed)
+all_sorted : (catalog : List Entry) (openings : List Opening) (names : List (List ℕ)) (lists : List ListInfo)
     → map (λ name. option_map (listed_at catalog openings) (entry_named catalog name)) names ≡ map Some lists
     → sorted_at lists ≡ map (is_sorted catalog) names
 all_sorted catalog openings [] [] e = refl

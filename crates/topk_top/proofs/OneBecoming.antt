@@ -36,20 +36,20 @@ use Rattle.query_admission.specs.View.{AreListed, AreTold, differs, versions_at,
 use Rattle.query_admission.specs.Causes.{QueryLine, Cause, line_causes, text_refusal, Over, ListsGive, RefusesFor, NoneOf, IsFirstOf}
 use Rattle.query_admission.specs.Admission.{RefusesLine}
 use Rattle.query_admission.specs.Becomes.{AnswersLine, Becomes}
-use Rattle.query_admission.specs.declared.lists.Listed.{Listed}
+use Rattle.query_admission.specs.declared.lists.ListInfo.{ListInfo}
 use Rattle.query_admission.proofs.Admitting.{read_once, lists_once}
 use Rattle.catalog_run.specs.Running.{is_answer}
 use Rattle.topk_top.proofs.OneReading.{two_splits, fault_once}
 
 -- what holds over the lists of a line's query holds over the same ones
-over_both : (x : QueryLine) (P Q : Query → List Listed → Type 0) → (h : Over x P) → Over x Q → Q h.query h.lists
+over_both : (x : QueryLine) (P Q : Query → List ListInfo → Type 0) → (h : Over x P) → Over x Q → Q h.query h.lists
 over_both x P Q h k =
     let same : k.query ≡ h.query = read_once x.bytes k.query h.query k.reads h.reads in
     let listed : map Some k.lists ≡ map Some h.lists = sym k.listed ∙ ap (λ (q : Query). map x.view.listed q.names) same ∙ h.listed in
     subst (Q h.query) (lists_once k.lists h.lists listed) (subst (λ q. Q q k.lists) same k.holds)
 
 -- a cause gives one refusal
-lists_give_once : (q : Query) (lists : List Listed) (cause : Cause) (r s : Refusal) → ListsGive q lists cause r → ListsGive q lists cause s → r ≡ s
+lists_give_once : (q : Query) (lists : List ListInfo) (cause : Cause) (r s : Refusal) → ListsGive q lists cause r → ListsGive q lists cause s → r ≡ s
 lists_give_once q lists Cause.not_opened r s (l, is, at) (m, same, place) = is ∙ ap (λ n. NotOpened n) (same_Some l m (sym at ∙ place)) ∙ sym same
 lists_give_once q lists Cause.too_large r s (l, n, is, at, size) (m, o, same, place, other) =
     let list : l ≡ m = same_Some l m (sym at ∙ place) in
@@ -175,7 +175,7 @@ answered_text number query count versions a = refl
 
 -- the rows of a line's lists are told, where nothing refuses it
 pub record HasRows (x : QueryLine) : Type 0 where
-  pub rows : (q : Query) (lists : List Listed) → NoneOf (RefusesFor x) line_causes → Reads x.bytes (Ok q) → AreListed x.view q lists
+  pub rows : (q : Query) (lists : List ListInfo) → NoneOf (RefusesFor x) line_causes → Reads x.bytes (Ok q) → AreListed x.view q lists
       → (D : List (List Row)) × AreTold x.view q D
 
 answered_once : (x : QueryLine) (number : ℕ) (p q : Query) (c d : ℕ) (v w : List ℕ) (a b : Answer) → HasRows x → AnswersLine x p c v a

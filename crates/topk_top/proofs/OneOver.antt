@@ -22,12 +22,12 @@ use Rattle.query_core.specs.OneAnswer.{IsOneAnswerWith}
 use Rattle.query_core.proofs.Answering.{agrees_same}
 use Rattle.query_admission.specs.View.{View, AreTold}
 use Rattle.query_admission.specs.Admission.{IsAdmitted}
-use Rattle.query_admission.specs.declared.lists.Listed.{Listed}
+use Rattle.query_admission.specs.declared.lists.ListInfo.{ListInfo}
 use Rattle.query_admission.proofs.Positions.{nothing}
 use Rattle.query_admission.proofs.ReadyLists.{admitted_states}
 use Rattle.query_run.specs.declared.ended.Ended.{Ended}
 use Rattle.query_run.specs.declared.ended.Ended.TheVariants as ended
-use Rattle.query_run.specs.declared.inquiry.Inquiry.{Inquiry}
+use Rattle.query_run.specs.declared.running_query.RunningQuery.{RunningQuery}
 use Rattle.query_run.specs.Inquiries.{source_of}
 use Rattle.query_run.specs.Endings.{EndsAs, IsRight}
 use Rattle.query_run.specs.Honest.{HasTable as HasQueryTable, lists_of}
@@ -58,21 +58,21 @@ closed_open : {size source version : ℕ} → Closed ≡ Open size source versio
 closed_open e = cc
 
 -- the sources of lists that are known tell these rows
-abbrev TellRows : List (Option (List Row)) → List Listed → List (List Row) → Type 0
-TellRows told ls D = AllZip (λ (l : Listed) (rows : List Row). slice_index_or told l.source None ≡ Some rows) ls D
+abbrev TellRows : List (Option (List Row)) → List ListInfo → List (List Row) → Type 0
+TellRows told ls D = AllZip (λ (l : ListInfo) (rows : List Row). slice_index_or told l.source None ≡ Some rows) ls D
 
 -- the rows by the numbers of the sources
-rows_told : (told : List (Option (List Row))) (ls : List Listed) (D : List (List Row)) → TellRows told ls D
-    → D ≡ map (list_at (map rows_of told)) (map (λ (l : Listed). l.source) ls)
+rows_told : (told : List (Option (List Row))) (ls : List ListInfo) (D : List (List Row)) → TellRows told ls D
+    → D ≡ map (list_at (map rows_of told)) (map (λ (l : ListInfo). l.source) ls)
 rows_told told [] [] tell = refl
 rows_told told [] (d ∷ D) tell = absurd tell
 rows_told told (l ∷ ls) [] tell = absurd tell
 rows_told told (l ∷ ls) (d ∷ D) tell =
     ap (λ rows. rows ∷ D) (sym (rows_at_source told l.source d tell.0)) ∙ ap (λ rest. list_at (map rows_of told) l.source ∷ rest) (rows_told told ls D tell.1)
 
-own_rows : (told : List (Option (List Row))) (ls : List Listed) (D : List (List Row)) (list : ℕ) → TellRows told ls D → list < length ls
-    → slice_index_or told (slice_index_or (map (λ (l : Listed). l.source) ls) list 0) None
-    ≡ Some (list_at (map rows_of told) (slice_index_or (map (λ (l : Listed). l.source) ls) list 0))
+own_rows : (told : List (Option (List Row))) (ls : List ListInfo) (D : List (List Row)) (list : ℕ) → TellRows told ls D → list < length ls
+    → slice_index_or told (slice_index_or (map (λ (l : ListInfo). l.source) ls) list 0) None
+    ≡ Some (list_at (map rows_of told) (slice_index_or (map (λ (l : ListInfo). l.source) ls) list 0))
 own_rows told [] D list tell l = absurd (omega (arith, l))
 own_rows told (x ∷ ls) [] list tell l = absurd tell
 own_rows told (x ∷ ls) (d ∷ D) zero tell l = tell.0 ∙ ap Some (sym (rows_at_source told x.source d tell.0))
@@ -82,7 +82,7 @@ module _ (r : CatalogRun) (outcomes : List LineOutcome) (run : IsRun r outcomes)
   abbrev Y : View
   Y = view_over r.catalog run.openings nothing_told
 
-  abbrev said : ℕ → Listed
+  abbrev said : ℕ → ListInfo
   said = listed_at r.catalog run.openings
 
   -- the lists by the numbers of the sources; an empty one where a source tells none
@@ -110,7 +110,7 @@ module _ (r : CatalogRun) (outcomes : List LineOutcome) (run : IsRun r outcomes)
           told_as.0
 
   -- so the sources of an admitted query's lists tell them
-  tell_rows : (names : List (List ℕ)) (ls : List Listed) (D : List (List Row)) (n : ℕ) → map (by_place r.catalog said) names ≡ map Some ls
+  tell_rows : (names : List (List ℕ)) (ls : List ListInfo) (D : List (List Row)) (n : ℕ) → map (by_place r.catalog said) names ≡ map Some ls
       → map (view_told r.catalog r.lists r.versions).told names ≡ map Some D
       → ((place : ℕ) → place < length ls → (slice_index_or ls place nothing).size ≡ Some n) → TellRows run.sources.told ls D
   tell_rows [] [] [] n known told sizes = tt
@@ -125,13 +125,13 @@ module _ (r : CatalogRun) (outcomes : List LineOutcome) (run : IsRun r outcomes)
       let told_rest : map (view_told r.catalog r.lists r.versions).told names ≡ map Some D = cc in
       let one = some_place said (entry_named r.catalog name) l here in
       let rows : entry_told r.lists r.catalog one.0 ≡ Some d = sym (ap (option_and_then (entry_told r.lists r.catalog)) one.1) ∙ told_here in
-      let sized : (said one.0).size ≡ Some n = subst (λ (k : Listed). k.size ≡ Some n) one.2 (sizes 0 (omega arith)) in (
-        subst (λ (k : Listed). slice_index_or run.sources.told k.source None ≡ Some d) (sym one.2) (tells_rows one.0 n d rows sized),
+      let sized : (said one.0).size ≡ Some n = subst (λ (k : ListInfo). k.size ≡ Some n) one.2 (sizes 0 (omega arith)) in (
+        subst (λ (k : ListInfo). slice_index_or run.sources.told k.source None ≡ Some d) (sym one.2) (tells_rows one.0 n d rows sized),
         tell_rows names ls D n rest told_rest (λ place h. sizes (suc place) (omega (arith, h))),
       )
 
   -- an answer of a query whose lists agree with its transcript
-  ended_one : (q : Inquiry) (ready : ReadyQuery) (e : Ended) (D : List (List Row)) (answer : Answer) → EndsAs q e → IsRight ready e
+  ended_one : (q : RunningQuery) (ready : ReadyQuery) (e : Ended) (D : List (List Row)) (answer : Answer) → EndsAs q e → IsRight ready e
       → ended_outcome e ≡ Some (Answered answer) → AgreesWith D (state_of q.machine).log → IsOneAnswerWith (method_of_ready ready) ready.query D answer
   ended_one q ready (ended.Answered other) D answer ends right is agrees =
       let log = ends.log in
@@ -141,13 +141,13 @@ module _ (r : CatalogRun) (outcomes : List LineOutcome) (run : IsRun r outcomes)
   ended_one q ready (ended.Look list fault) D answer ends right is agrees = absurd (never_answered (look_refusal list fault) answer is)
 
   -- the lists of a query that ran agree with its transcript, where they are told and form a table
-  lists_agree : (number : ℕ) (bytes : List ℕ) (q : Inquiry) (ready : ReadyQuery) (D : List (List Row)) → IsAdmitted (line_over Y number bytes) ready → IsOf ready q
+  lists_agree : (number : ℕ) (bytes : List ℕ) (q : RunningQuery) (ready : ReadyQuery) (D : List (List Row)) → IsAdmitted (line_over Y number bytes) ready → IsOf ready q
       → Contains run.ran.ran.queries q → AreTold (view_told r.catalog r.lists r.versions) ready.query D → IsTable ready.count D → AgreesWith D (state_of q.machine).log
   lists_agree number bytes q ready D admitted of c told table =
       let b = run.ran.ran in
       let served = served_all r outcomes run q c in
       let tell = tell_rows ready.query.names admitted.lists D ready.count admitted.listed told (admitted_states (line_over Y number bytes) ready admitted) in
-      let sources : map (λ (l : Listed). l.source) admitted.lists ≡ q.sources.items = admitted.sources ∙ sym of.sources in
+      let sources : map (λ (l : ListInfo). l.source) admitted.lists ≡ q.sources.items = admitted.sources ∙ sym of.sources in
       let same : D ≡ lists_of lists q = rows_told run.sources.told admitted.lists D tell ∙ ap (map (list_at lists)) sources in
       let has_table : HasQueryTable lists q =
       subst (λ n. IsTable n (lists_of lists q)) (sym (of.goes.count ∙ of.begun.count)) (subst (IsTable ready.count) same table) in
@@ -155,12 +155,12 @@ module _ (r : CatalogRun) (outcomes : List LineOutcome) (run : IsRun r outcomes)
       (told_agrees lists b.states q (states_sound (batch_over r.settings run.sources run.begun run.now run.ran.readies) run.ran.batch b) served has_table
       (λ list l. tells_own q admitted.lists D list tell sources served l))
     where
-      tells_own : (q : Inquiry) (ls : List Listed) (D : List (List Row)) (list : ℕ) → TellRows run.sources.told ls D
-          → map (λ (l : Listed). l.source) ls ≡ q.sources.items → IsServed run.ran.ran.states q → list < length q.sources.items
+      tells_own : (q : RunningQuery) (ls : List ListInfo) (D : List (List Row)) (list : ℕ) → TellRows run.sources.told ls D
+          → map (λ (l : ListInfo). l.source) ls ≡ q.sources.items → IsServed run.ran.ran.states q → list < length q.sources.items
           → TellsOf (list_at lists (source_of q list)) (state_at run.ran.ran.states (source_of q list)).log
       tells_own q ls D list tell sources served l =
           let b = run.ran.ran in
-          let long : length ls ≡ length q.sources.items = sym (length-map ls (λ (l : Listed). l.source)) ∙ ap (length {A = ℕ}) sources in
+          let long : length ls ≡ length q.sources.items = sym (length-map ls (λ (l : ListInfo). l.source)) ∙ ap (length {A = ℕ}) sources in
           let own = own_rows run.sources.told ls D list tell (omega (arith, l, long)) in
           let is : slice_index_or run.sources.told (source_of q list) None ≡ Some (list_at lists (source_of q list)) =
           subst (λ (xs : List ℕ). slice_index_or run.sources.told (slice_index_or xs list 0) None ≡ Some (list_at lists (slice_index_or xs list 0))) sources own in
@@ -171,7 +171,7 @@ module _ (r : CatalogRun) (outcomes : List LineOutcome) (run : IsRun r outcomes)
           let closing = b.closing (source_of q list) (omega (arith, there, many)) in
           subst (λ o. IfSome o (λ rows. TellsOf rows (state_at b.states (source_of q list)).log)) is closing.tells
 
-  line_one : (number : ℕ) (bytes : List ℕ) (o : LineOutcome) (q : Inquiry) → Contains run.ran.ran.queries q → IsLineRun Y q number bytes o → IsOneOverTold r o
+  line_one : (number : ℕ) (bytes : List ℕ) (o : LineOutcome) (q : RunningQuery) → Contains run.ran.ran.queries q → IsLineRun Y q number bytes o → IsOneOverTold r o
   line_one number bytes o q c line = λ query answer D query_is is told table.
       let ready = line.ready in
       let same : ready.query ≡ query = same_Some ready.query query (sym line.outcome.query ∙ query_is) in
@@ -184,8 +184,8 @@ module _ (r : CatalogRun) (outcomes : List LineOutcome) (run : IsRun r outcomes)
   line_refused : (number : ℕ) (bytes : List ℕ) (o : LineOutcome) → IsLineRefused Y number bytes o → IsOneOverTold r o
   line_refused number bytes o line = λ query answer D query_is is told table. absurd (refused_answered line.refusal answer (sym line.outcome ∙ is))
 
-  all_one : (queries : List Inquiry) (number : ℕ) (lines : List (List ℕ)) (others : List LineOutcome)
-      → ((q : Inquiry) → Contains queries q → Contains run.ran.ran.queries q) → AreOutcomes Y queries number lines others
+  all_one : (queries : List RunningQuery) (number : ℕ) (lines : List (List ℕ)) (others : List LineOutcome)
+      → ((q : RunningQuery) → Contains queries q → Contains run.ran.ran.queries q) → AreOutcomes Y queries number lines others
       → AllByRecursion (IsOneOverTold r) others
   all_one queries number [] [] there are = tt
   all_one queries number [] (o ∷ others) there are = absurd are
@@ -193,7 +193,7 @@ module _ (r : CatalogRun) (outcomes : List LineOutcome) (run : IsRun r outcomes)
   all_one queries number (bytes ∷ lines) (o ∷ others) there are = elim are [
     | inl refused ↦ (line_refused number bytes o refused.0, all_one queries (number + 1) lines others there refused.1)
     | inr ran ↦
-        let all : (q : Inquiry) → Contains (ran.0 ∷ ran.1) q → Contains run.ran.ran.queries q = λ q c. there q (subst (λ qs. Contains qs q) (sym ran.2) c) in (
+        let all : (q : RunningQuery) → Contains (ran.0 ∷ ran.1) q → Contains run.ran.ran.queries q = λ q c. there q (subst (λ qs. Contains qs q) (sym ran.2) c) in (
           line_one number bytes o ran.0 (all ran.0 (contains_here ran.0 ran.1)) ran.3,
           all_one ran.1 (number + 1) lines others (λ q c. all q (contains_there ran.0 ran.1 q c)) ran.4,
         )

@@ -312,7 +312,7 @@ faulty_once line f g (inr (inr (inl a))) (inr (inr (inr b))) = absurd (not_both 
 faulty_once line f g (inr (inr (inr a))) (inr (inr (inl b))) = absurd (not_both line g f b a)
 faulty_once line f g (inr (inr (inr a))) (inr (inr (inr b))) = trees_once line f g a b
 
--- what a line is refused for, unless for want of memory
+-- what a line is refused for, unless for lack of memory
 pub fault_once : (line : List ℕ) (f g : QueryFault) → Reads line (Err f) → Reads line (Err g) → (f ≡ faults.Memory) ⊎ ((g ≡ faults.Memory) ⊎ (f ≡ g))
 fault_once line f g reads other = elim (faulty line f reads) [
   | inl none ↦ inl none

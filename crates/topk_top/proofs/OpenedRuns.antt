@@ -1,4 +1,4 @@
--- The sources that a run opened, whether it came to its end or memory was wanting for it.
+-- The sources that a run opened, whether it came to its end or it ran out of memory.
 use Rattle.std.proofs.Common.{◌≡◌, ◌<◌, ℕ, zero, suc, List, [], ◌∷◌, All, length, reverse, take, inl, inr, Some, slice_get, slice_index_or, refl, sym, subst, ◌∙◌}
 use Rattle.std.proofs.lemmas.Bool.{cases_lt}
 use Rattle.std.proofs.lemmas.List.{get_or_past}
@@ -12,7 +12,7 @@ use Rattle.catalog_open.specs.Wanted.{IsWanted}
 use Rattle.catalog_open.specs.Openings.{AreOpened, Counted, GivesNothing, IsNumbered, IsOpening, IsSource, PutsBack, Sources, put_back}
 use Rattle.query_admission.specs.declared.line_outcome.LineOutcome.{LineOutcome}
 use Rattle.catalog_run.specs.Runs.{CatalogRun, IsReadyOf, IsRun}
-use Rattle.catalog_run.specs.Cut.{IsCutRun}
+use Rattle.catalog_run.specs.Cut.{RanOutOfMemory}
 use Rattle.catalog_run.proofs.Readies.{all_own}
 
 -- sources were opened, which gave nothing, and the open ones were put back with what they had counted
@@ -36,7 +36,7 @@ of_run r outcomes run = record {
   back = run.back;
 }
 
-abbrev pub of_cut : (r : CatalogRun) → IsCutRun r → OpenedRun r
+abbrev pub of_cut : (r : CatalogRun) → RanOutOfMemory r → OpenedRun r
 of_cut r cut = record {
   openings = cut.openings;
   sources = cut.sources;
@@ -79,7 +79,7 @@ module _ (r : CatalogRun) (o : OpenedRun r) where
       let n : IsNumbered r.catalog o.openings (slice_index_or o.sources.places source 0) source = o.opened.numbered source within in
       open_within (slice_index_or o.sources.places source 0) n.size source n.version n.open_as
 
--- ---- the queries of a run for which memory was wanting are ready ones of its lines
+-- ---- the queries of a run that ran out of memory are ready ones of its lines
 
 front_line : (n : ℕ) (lines : List (List ℕ)) (at : ℕ) (bytes : List ℕ) → slice_get (take n lines) at ≡ Some bytes → slice_get lines at ≡ Some bytes
 front_line zero lines at bytes e = absurd (cc)
@@ -87,7 +87,7 @@ front_line (suc n) [] at bytes e = absurd (cc)
 front_line (suc n) (line ∷ lines) zero bytes e = e
 front_line (suc n) (line ∷ lines) (suc at) bytes e = front_line n lines at bytes e
 
-pub cut_own : (r : CatalogRun) (cut : IsCutRun r) → All (IsReadyOf (view_over r.catalog cut.openings nothing_told) r.lines) cut.read.readies
+pub cut_own : (r : CatalogRun) (cut : RanOutOfMemory r) → All (IsReadyOf (view_over r.catalog cut.openings nothing_told) r.lines) cut.read.readies
 cut_own r cut =
     let V = view_over r.catalog cut.openings nothing_told in
     let front = take cut.read.admitted r.lines in

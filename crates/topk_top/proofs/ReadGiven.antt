@@ -12,7 +12,7 @@ use Rattle.source_state.specs.Looking.{reach_of}
 use Rattle.source_api.specs.declared.counts.Counts.{Counts}
 use Rattle.source_api.specs.Counting.{no_counts}
 use Rattle.query_core.specs.declared.ready.Ready.{Ready as ReadyQuery}
-use Rattle.query_run.specs.declared.inquiry.Inquiry.{Inquiry}
+use Rattle.query_run.specs.declared.running_query.RunningQuery.{RunningQuery}
 use Rattle.fetcher.proofs.ReachLaws.{reach_more, reach_within}
 use Rattle.topk_base.specs.declared.settings.Settings.{Settings}
 use Rattle.batch_result.specs.Account.{IsAnsweredOf, IsWithin, Reading, deepest, one_readings, printed_readings}
@@ -29,7 +29,7 @@ use Rattle.catalog_open.specs.Views.{nothing_told, view_over}
 use Rattle.catalog_open.specs.Wanted.{IsWanted}
 use Rattle.catalog_run.specs.OpenSources.{batch_over}
 use Rattle.catalog_run.specs.Runs.{CatalogRun, IsReadyOf, IsRun}
-use Rattle.catalog_run.specs.Cut.{IsCutRun}
+use Rattle.catalog_run.specs.Cut.{RanOutOfMemory}
 use Rattle.query_admission.specs.declared.line_outcome.LineOutcome.{LineOutcome}
 use Rattle.query_admission.specs.View.{View}
 use Rattle.topk_top.specs.Giving.{CutLinesHaveTables, GaveSparingly, GaveWhatIsRead, HadGivenSparingly, LinesHaveTables}
@@ -78,7 +78,7 @@ reach_rises page ahead count w v l = elim (cases_lt 0 page) [
 ]
 
 -- by what was used of a source that had given nothing
-pub gave_read : (settings : Settings) (queries : List Inquiry) (source size : ℕ) (readings : List Reading) (s : State) (before now : Counts) (used : Use)
+pub gave_read : (settings : Settings) (queries : List RunningQuery) (source size : ℕ) (readings : List Reading) (s : State) (before now : Counts) (used : Use)
     → IsUnread before → s.count ≡ size → (sound : IsSound s) → IsUsed settings queries source s before now used → IsWithin settings size source readings used
     → GaveWhatIsRead settings readings source size now
 gave_read settings queries source size readings s before now used unread count sound is within =
@@ -123,8 +123,8 @@ gave_sparingly one_runs answers no_row r outcomes run source within =
           (λ sized. answers over run.ran.batch run.ran.ran source sized answered);
     }
 
--- the same where memory was wanting
-pub cut_gave_sparingly : CutRunsBound → CutGradesAloneGiveNoRow → (r : CatalogRun) (cut : IsCutRun r) (source : ℕ) → source < length cut.sources.places
+-- the same where memory ran out
+pub cut_gave_sparingly : CutRunsBound → CutGradesAloneGiveNoRow → (r : CatalogRun) (cut : RanOutOfMemory r) (source : ℕ) → source < length cut.sources.places
     → HadGivenSparingly r cut source (size_at cut.sources.counts source) (counts_at cut.now source)
 cut_gave_sparingly bound no_row r cut source within =
     let b = cut.read.cut in
@@ -154,8 +154,8 @@ lines_have_tables r outcomes run tells =
           subst (IsTable ready.count) has.is has.table);
     }
 
--- so they do where memory was wanting
-cut_every : (r : CatalogRun) (cut : IsCutRun r) → 0 < cut.read.admitted → (place : ℕ) → IsWanted r.catalog r.lines place → place < length cut.openings
+-- so they do where memory ran out
+cut_every : (r : CatalogRun) (cut : RanOutOfMemory r) → 0 < cut.read.admitted → (place : ℕ) → IsWanted r.catalog r.lines place → place < length cut.openings
 cut_every r cut some place wanted =
     let inside = wanted_within r place wanted in
     let all = (cut.first some).0 in
@@ -165,7 +165,7 @@ none_ready : (view : View) (number : ℕ) (readies : List ReadyQuery) (stages : 
 none_ready view number readies [] are = are
 none_ready view number readies (stage ∷ stages) are = absurd are
 
-pub cut_lines_have_tables : (r : CatalogRun) (cut : IsCutRun r) (tells : ShelfTellsTables r) → CutLinesHaveTables r cut (lists_read r (of_cut r cut) tells)
+pub cut_lines_have_tables : (r : CatalogRun) (cut : RanOutOfMemory r) (tells : ShelfTellsTables r) → CutLinesHaveTables r cut (lists_read r (of_cut r cut) tells)
 cut_lines_have_tables r cut tells =
     let lists = lists_read r (of_cut r cut) tells in
     let V = view_over r.catalog cut.openings nothing_told in

@@ -21,7 +21,7 @@ use Rattle.query_core.specs.OneAnswer.{asked_by, IsAnsweredWith}
 use Rattle.query_admission.specs.View.{View}
 use Rattle.query_run.specs.declared.ended.Ended.{Ended}
 use Rattle.query_run.specs.declared.ended.Ended.TheVariants as ended
-use Rattle.query_run.specs.declared.inquiry.Inquiry.{Inquiry}
+use Rattle.query_run.specs.declared.running_query.RunningQuery.{RunningQuery}
 use Rattle.query_run.specs.Endings.{IsRight}
 use Rattle.query_admission.specs.declared.line_outcome.LineOutcome.{LineOutcome}
 use Rattle.catalog_text.specs.Catalog.{Listed as Entry}
@@ -65,7 +65,7 @@ module _ (r : CatalogRun) (outcomes : List LineOutcome) (run : IsRun r outcomes)
   refused_right : (number : ℕ) (bytes : List ℕ) (o : LineOutcome) → IsLineRefused Z number bytes o → IsRightLine r o
   refused_right number bytes o is = λ answer e. absurd (refused_answered is.refusal answer (sym is.outcome ∙ e))
 
-  run_right : (q : Inquiry) (number : ℕ) (bytes : List ℕ) (o : LineOutcome) → IsLineRun Z q number bytes o → IsRightLine r o
+  run_right : (q : RunningQuery) (number : ℕ) (bytes : List ℕ) (o : LineOutcome) → IsLineRun Z q number bytes o → IsRightLine r o
   run_right q number bytes o is = λ answer e.
       let query = is.ready.query in
       let right = subst (λ method. IsAnsweredWith method query is.ready.count answer) (ready_method r.catalog run.openings number bytes is.ready is.admitted)
@@ -73,7 +73,7 @@ module _ (r : CatalogRun) (outcomes : List LineOutcome) (run : IsRun r outcomes)
       let counted = subst (λ count. IsAnsweredWith (method_in r.catalog query) query count answer) (sym is.outcome.count) right in
       (query, is.outcome.query, record { answered = counted; printed = as_printed r.catalog query o.count o.versions answer counted })
 
-  all_right : (queries : List Inquiry) (number : ℕ) (lines : List (List ℕ)) (others : List LineOutcome) → AreOutcomes Z queries number lines others
+  all_right : (queries : List RunningQuery) (number : ℕ) (lines : List (List ℕ)) (others : List LineOutcome) → AreOutcomes Z queries number lines others
       → AllByRecursion (IsRightLine r) others
   all_right queries number [] [] are = tt
   all_right queries number [] (o ∷ others) are = absurd are

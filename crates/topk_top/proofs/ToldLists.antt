@@ -16,8 +16,8 @@ use Rattle.query_core.specs.declared.ready.Ready.{Ready as ReadyQuery}
 use Rattle.query_admission.specs.View.{count_of}
 use Rattle.query_admission.specs.Causes.{most_queries, admission_causes, line_over}
 use Rattle.query_admission.specs.Admission.{IsAdmitted}
-use Rattle.query_admission.specs.declared.lists.Listed.{Listed}
-use Rattle.query_run.specs.declared.inquiry.Inquiry.{Inquiry}
+use Rattle.query_admission.specs.declared.lists.ListInfo.{ListInfo}
+use Rattle.query_run.specs.declared.running_query.RunningQuery.{RunningQuery}
 use Rattle.query_run.specs.Made.{IsOf}
 use Rattle.query_run.specs.Honest.{HasTable as HasQueryTable, IsOnItsRun}
 use Rattle.query_run.proofs.Lists.{zip_member}
@@ -50,20 +50,20 @@ QueriesAreOnTheirRuns =
     → All (HasQueryTable lists) ran.queries → All (IsOnItsRun lists) ran.queries
 
 -- what is known of lists by their names, by their places in a catalog
-abbrev pub by_place : List Entry → (ℕ → Listed) → List ℕ → Option Listed
+abbrev pub by_place : List Entry → (ℕ → ListInfo) → List ℕ → Option ListInfo
 by_place catalog says name = option_map says (entry_named catalog name)
 
 -- names whose lists are all known have places
-pub record HavePlaces (catalog : List Entry) (says : ℕ → Listed) (names : List (List ℕ)) (lists : List Listed) : Type 0 where
+pub record HavePlaces (catalog : List Entry) (says : ℕ → ListInfo) (names : List (List ℕ)) (lists : List ListInfo) : Type 0 where
   pub places : List ℕ
   pub known : map (entry_named catalog) names ≡ map Some places
   pub said : lists ≡ map says places
 
-pub some_place : (says : ℕ → Listed) (o : Option ℕ) (l : Listed) → option_map says o ≡ Some l → (place : ℕ) × (o ≡ Some place) × (l ≡ says place)
+pub some_place : (says : ℕ → ListInfo) (o : Option ℕ) (l : ListInfo) → option_map says o ≡ Some l → (place : ℕ) × (o ≡ Some place) × (l ≡ says place)
 some_place says None l e = absurd cc
 some_place says (Some place) l e = (place, refl, sym (same_Some (says place) l e))
 
-pub known_places : (catalog : List Entry) (says : ℕ → Listed) (names : List (List ℕ)) (lists : List Listed)
+pub known_places : (catalog : List Entry) (says : ℕ → ListInfo) (names : List (List ℕ)) (lists : List ListInfo)
     → map (by_place catalog says) names ≡ map Some lists → HavePlaces catalog says names lists
 known_places catalog says [] [] e = record { places = []; known = refl; said = refl }
 known_places catalog says [] (l ∷ ls) e = absurd cc
@@ -91,7 +91,7 @@ placed_known catalog says (n ∷ ns) (p ∷ ps) e =
     ap (λ o. option_map says o ∷ map (λ name. option_map says (entry_named catalog name)) ns) here
     ∙ ap (λ os. Some (says p) ∷ os) (placed_known catalog says ns ps rest)
 
-unknown_same : (catalog : List Entry) (says others : ℕ → Listed) (names : List (List ℕ))
+unknown_same : (catalog : List Entry) (says others : ℕ → ListInfo) (names : List (List ℕ))
     → map is_none (map (by_place catalog says) names) ≡ map is_none (map (by_place catalog others) names)
 unknown_same catalog says others [] = refl
 unknown_same catalog says others (n ∷ ns) =
@@ -118,7 +118,7 @@ named_wanted catalog lines at bytes query places line few reads known place name
     record { at = at; bytes = bytes; line = line; wants = record { few = few; query = query; reads = reads; places = places; known = known; named = named } }
 
 -- what is said by place is alike where it is of the places that are wanted
-pub alike_places : (catalog : List Entry) (lines : List (List ℕ)) (says others : ℕ → Listed) (at : ℕ) (bytes : List ℕ) → slice_get lines at ≡ Some bytes
+pub alike_places : (catalog : List Entry) (lines : List (List ℕ)) (says others : ℕ → ListInfo) (at : ℕ) (bytes : List ℕ) → slice_get lines at ≡ Some bytes
     → at + 1 ≤ most_queries → ((place : ℕ) → IsWanted catalog lines place → plain (says place) ≡ plain (others place))
     → Alike bytes (by_place catalog says) (by_place catalog others)
 alike_places catalog lines says others at bytes line few same = record {
@@ -155,7 +155,7 @@ rows_at_source (o ∷ os) zero rows e = let is : o ≡ Some rows = e in ap rows_
 rows_at_source (o ∷ os) (suc source) rows e = rows_at_source os source rows e
 
 -- what a list says of itself, without the number of its source
-abbrev said_plain : Entry → Option ℕ → ℕ → Listed
+abbrev said_plain : Entry → Option ℕ → ℕ → ListInfo
 said_plain entry size version = record { size = size; random = entry.random; sorted = entry.sorted; source = 0; version = version }
 
 -- a source that tells the rows of a place and is open, at the version that is told
@@ -180,7 +180,7 @@ pub record HasLists (r : CatalogRun) (lists : List (List Row)) (ready : ReadyQue
   pub table : IsTable ready.count D
 
 -- as many rows as the query counts
-rows_counted : (says : ℕ → Listed) (rows : ℕ → List Row) (places : List ℕ) (n count : ℕ)
+rows_counted : (says : ℕ → ListInfo) (rows : ℕ → List Row) (places : List ℕ) (n count : ℕ)
     → ((place : ℕ) → Contains places place → (says place).size ≡ Some (length (rows place))) → count_of (map says places) ≡ Some count
     → All (λ (one : List Row). length one ≡ n) (map rows places) → n ≡ count
 rows_counted says rows [] n count sizes counted sized = absurd cc
@@ -310,7 +310,7 @@ module _ (r : CatalogRun) (run : OpenedRun r) (tells : ShelfTellsTables r) where
               let o = told_open place (wanted place c) in
               ap rows_of o.told ∙ sym (rows_at_source run.sources.told o.source o.rows o.tells) ∙ ap (list_at lists_read) (sym (ap (λ p. (said_of (entry_at r.catalog place) p).source) o.opens)))
               ∙ sym (map_twice (λ place. (listed_at r.catalog run.openings place).source) (list_at lists_read) h.places)
-              ∙ ap (map (list_at lists_read)) (sym (map_twice (listed_at r.catalog run.openings) (λ (l : Listed). l.source) h.places) ∙ ap (map (λ (l : Listed). l.source)) (sym h.said) ∙ admitted.sources);
+              ∙ ap (map (list_at lists_read)) (sym (map_twice (listed_at r.catalog run.openings) (λ (l : ListInfo). l.source) h.places) ∙ ap (map (λ (l : ListInfo). l.source)) (sym h.said) ∙ admitted.sources);
           table = subst (λ n. IsTable n D) counted table.1;
         }
 
@@ -341,7 +341,7 @@ module _ (r : CatalogRun) (outcomes : List LineOutcome) (run : IsRun r outcomes)
   has_lists = has_read r (of_run r outcomes run) tells all_tried
 
   -- so each query of the batch is on its run
-  query_table : (ready : ReadyQuery) (q : Inquiry) → IsOf ready q → HasLists r lists_told ready → HasQueryTable lists_told q
+  query_table : (ready : ReadyQuery) (q : RunningQuery) → IsOf ready q → HasLists r lists_told ready → HasQueryTable lists_told q
   query_table ready q of has =
       subst (λ n. IsTable n (map (list_at lists_told) q.sources.items)) (sym (of.goes.count ∙ of.begun.count))
       (subst (λ sources. IsTable ready.count (map (list_at lists_told) sources)) (sym of.sources) (subst (IsTable ready.count) has.is has.table))

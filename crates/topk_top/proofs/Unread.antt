@@ -11,7 +11,7 @@ use Rattle.query_core.specs.declared.ready.Ready.{Ready as ReadyQuery}
 use Rattle.query_admission.specs.View.{View, lacks_sorted, unread_list, sorted_at}
 use Rattle.query_admission.specs.Causes.{QueryLine, line_over}
 use Rattle.query_admission.specs.Admission.{IsAdmitted}
-use Rattle.query_admission.specs.declared.lists.Listed.{Listed}
+use Rattle.query_admission.specs.declared.lists.ListInfo.{ListInfo}
 use Rattle.query_admission.proofs.Positions.{nothing}
 use Rattle.query_admission.proofs.ReadyLists.{admitted_sorts, admitted_states}
 use Rattle.fetcher.specs.Metering.{WentUp}
@@ -24,7 +24,7 @@ use Rattle.catalog_open.specs.Entries.{entry_at, opening_at}
 use Rattle.query_admission.specs.declared.line_outcome.LineOutcome.{LineOutcome}
 use Rattle.catalog_run.specs.OpenSources.{batch_over}
 use Rattle.catalog_run.specs.Runs.{CatalogRun, IsReadyOf, IsRun}
-use Rattle.catalog_run.specs.Cut.{IsCutRun}
+use Rattle.catalog_run.specs.Cut.{RanOutOfMemory}
 use Rattle.topk_top.specs.Giving.{IsOutOfOrder}
 use Rattle.topk_top.proofs.ToldLists.{known_places}
 use Rattle.topk_top.proofs.InOrder.{said_sorted}
@@ -44,13 +44,13 @@ CutGradesAloneGiveNoRow =
     → ((use_at cut.uses source).want ≡ 0) × ((use_at cut.uses source).rows ≡ 0)
 
 -- whether a list can be read in order, by what it says of itself
-sorted_of : (lists : List Listed) (list : ℕ) → slice_index_or (sorted_at lists) list false ≡ (slice_index_or lists list nothing).sorted
+sorted_of : (lists : List ListInfo) (list : ℕ) → slice_index_or (sorted_at lists) list false ≡ (slice_index_or lists list nothing).sorted
 sorted_of [] list = refl
 sorted_of (l ∷ ls) zero = refl
 sorted_of (l ∷ ls) (suc list) = sorted_of ls list
 
 -- an algorithm asks a list that can't be read in order for grades alone, or it reads all lists in order
-by_algorithm : (a : Algorithm) (lists : List Listed) (sorted : List Bool) (list : ℕ) → slice_index_or sorted list false ≡ false
+by_algorithm : (a : Algorithm) (lists : List ListInfo) (sorted : List Bool) (list : ℕ) → slice_index_or sorted list false ≡ false
     → AsksGradesAlone a sorted list ⊎ (unread_list a lists ≡ position lacks_sorted lists)
 by_algorithm Ta lists sorted list flat = inr refl
 by_algorithm Nra lists sorted list flat = inr refl
@@ -73,7 +73,7 @@ module _ (r : CatalogRun) (o : OpenedRun r) where
   abbrev P : View
   P = view_over r.catalog o.openings nothing_told
 
-  abbrev telling : ℕ → Listed
+  abbrev telling : ℕ → ListInfo
   telling = listed_at r.catalog o.openings
 
   -- the query of a line asks each of its lists that is of such a source for grades alone
@@ -85,19 +85,19 @@ module _ (r : CatalogRun) (o : OpenedRun r) where
       let places = known_places r.catalog telling ready.query.names admitted.lists admitted.listed in
       let names_long = many_places r.catalog ready.query.names places.places places.known in
       let inside : list < length places.places = omega (arith, l, many, names_long) in
-      let lists_long : length admitted.lists ≡ length places.places = ap (length {A = Listed}) places.said ∙ length-map places.places telling in
+      let lists_long : length admitted.lists ≡ length places.places = ap (length {A = ListInfo}) places.said ∙ length-map places.places telling in
       let within : list < length admitted.lists = omega (arith, inside, lists_long) in
       let place = slice_index_or places.places list 0 in
       let said : slice_index_or admitted.lists list nothing ≡ telling place =
-      ap (λ (ls : List Listed). slice_index_or ls list nothing) places.said ∙ said_there telling places.places list inside in
-      let sized : (telling place).size ≡ Some ready.count = subst (λ (k : Listed). k.size ≡ Some ready.count) said (admitted_states x ready admitted list within) in
+      ap (λ (ls : List ListInfo). slice_index_or ls list nothing) places.said ∙ said_there telling places.places list inside in
+      let sized : (telling place).size ≡ Some ready.count = subst (λ (k : ListInfo). k.size ≡ Some ready.count) said (admitted_states x ready admitted list within) in
       let source_is : slice_index_or ready.sources.items list 0 ≡ (telling place).source =
-      ap (λ (sources : List ℕ). slice_index_or sources list 0) (sym admitted.sources ∙ ap (map (λ (k : Listed). k.source)) places.said)
+      ap (λ (sources : List ℕ). slice_index_or sources list 0) (sym admitted.sources ∙ ap (map (λ (k : ListInfo). k.source)) places.said)
       ∙ source_there telling places.places list inside in
       let stands : slice_index_or o.sources.places source 0 ≡ place =
       ap (λ s. slice_index_or o.sources.places s 0) (sym of ∙ source_is) ∙ stood_open r o place ready.count sized in
       let sorted : slice_index_or ready.sorted.items list false ≡ (telling place).sorted =
-      ap (λ (bs : List Bool). slice_index_or bs list false) (sym admitted.sorted) ∙ sorted_of admitted.lists list ∙ ap (λ (k : Listed). k.sorted) said in
+      ap (λ (bs : List Bool). slice_index_or bs list false) (sym admitted.sorted) ∙ sorted_of admitted.lists list ∙ ap (λ (k : ListInfo). k.sorted) said in
       let flat : (telling place).sorted ≡ false =
       said_sorted (entry_at r.catalog place) (opening_at o.openings place) ∙ ap (λ p. (entry_at r.catalog p).sorted) (sym stands) ∙ none in
       grades_alone x ready list admitted within (sorted ∙ flat)
@@ -123,8 +123,8 @@ gives_no_row law r outcomes run source within none =
     none_given (use_at run.ran.batch.uses source).rows (counts_at run.begun source).rows_given (counts_at run.now source).rows_given used.1
     (run.unread source no_counts at.1).rows (b.used source at.0).rows
 
--- so it is where memory was wanting
-pub cut_gives_no_row : CutGradesAloneGiveNoRow → (r : CatalogRun) (cut : IsCutRun r) (source : ℕ) → source < length cut.sources.places
+-- so it is where memory ran out
+pub cut_gives_no_row : CutGradesAloneGiveNoRow → (r : CatalogRun) (cut : RanOutOfMemory r) (source : ℕ) → source < length cut.sources.places
     → IsOutOfOrder r.catalog cut.sources.places source → (counts_at cut.now source).rows_given ≡ 0
 cut_gives_no_row law r cut source within none =
     let b = cut.read.cut in

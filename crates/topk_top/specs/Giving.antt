@@ -7,7 +7,7 @@ use Rattle.source_api.specs.declared.counts.Counts.{Counts}
 use Rattle.source_api.specs.declared.ledger.PlaceCounts.{PlaceCounts}
 use Rattle.source_state.specs.Looking.{reach_of}
 use Rattle.fetcher.specs.Metering.{WentUp}
-use Rattle.query_run.specs.declared.inquiry.Inquiry.{Inquiry}
+use Rattle.query_run.specs.declared.running_query.RunningQuery.{RunningQuery}
 use Rattle.topk_base.specs.declared.settings.Settings.{Settings}
 use Rattle.batch_result.specs.Account.{IsAnsweredOf, Reading, deepest, one_readings, printed_readings, random_accesses}
 use Rattle.batch_result.specs.Batches.{size_at}
@@ -20,11 +20,11 @@ use Rattle.catalog_text.specs.Catalog.{Listed as Entry}
 use Rattle.catalog_open.specs.Entries.{entry_at}
 use Rattle.catalog_open.specs.Openings.{put_back, used_at}
 use Rattle.catalog_run.specs.Runs.{CatalogRun, IsRun}
-use Rattle.catalog_run.specs.Cut.{IsCutRun}
+use Rattle.catalog_run.specs.Cut.{RanOutOfMemory}
 
 -- a source of so many objects gave no more than these queries asked of it, whatever their number: no row beyond the reach of the greatest depth to which one of
 -- them asked, and for each of some objects, whose grades were asked for, one grade at most
-pub record GaveWhatIsAsked (settings : Settings) (queries : List Inquiry) (source size : ℕ) (now : Counts) : Type 0 where
+pub record GaveWhatIsAsked (settings : Settings) (queries : List RunningQuery) (source size : ℕ) (now : Counts) : Type 0 where
   pub depth : ℕ
   pub deep : IsWantedBy queries source depth
   pub rows : now.rows_given ≤ reach_of depth settings.page settings.ahead size
@@ -71,22 +71,22 @@ EachGaveSparingly r outcomes run =
 abbrev pub EachPlaceRose : (r : CatalogRun) (outcomes : List LineOutcome) → IsRun r outcomes → Type 0
 EachPlaceRose r outcomes run = (place : List ℕ) → RoseByGiven (r.before place) (r.after place) (used_at place (put_back r.catalog run.sources.places run.now))
 
--- the open sources of a run for which memory was wanting tell these lists, and those of each line that was admitted form a table
-pub record CutLinesHaveTables (r : CatalogRun) (cut : IsCutRun r) (lists : List (List Row)) : Type 0 where
+-- the open sources of a run that ran out of memory tell these lists, and those of each line that was admitted form a table
+pub record CutLinesHaveTables (r : CatalogRun) (cut : RanOutOfMemory r) (lists : List (List Row)) : Type 0 where
   pub told : cut.sources.told ≡ map Some lists
   pub tables : All (λ ready. IsTable ready.count (lists_for lists ready)) cut.read.readies
 
--- each open source of a run for which memory was wanting gave no more by then than one of a run that ends: no more than the queries asked that had begun, and no
+-- each open source of a run that ran out of memory gave no more by then than one of a run that ends: no more than the queries asked that had begun, and no
 -- row where its list can't be read in order; and where the sources tell lists that form tables, no more than the one runs of the lines read of it
-pub record HadGivenSparingly (r : CatalogRun) (cut : IsCutRun r) (source size : ℕ) (now : Counts) : Type 0 where
+pub record HadGivenSparingly (r : CatalogRun) (cut : RanOutOfMemory r) (source size : ℕ) (now : Counts) : Type 0 where
   pub asked : GaveWhatIsAsked r.settings (begun cut.read.cut.stood) source size now
   pub unread : IsOutOfOrder r.catalog cut.sources.places source → now.rows_given ≡ 0
   pub read : (lists : List (List Row)) → CutLinesHaveTables r cut lists → GaveWhatIsRead r.settings (one_readings lists cut.read.readies) source size now
 
-abbrev pub EachHadGivenSparingly : (r : CatalogRun) → IsCutRun r → Type 0
+abbrev pub EachHadGivenSparingly : (r : CatalogRun) → RanOutOfMemory r → Type 0
 EachHadGivenSparingly r cut =
     (source : ℕ) → source < length cut.sources.places → HadGivenSparingly r cut source (size_at cut.sources.counts source) (counts_at cut.now source)
 
--- what the shelf counts of each place rose by what the sources of the place gave, where memory was wanting
-abbrev pub EachPlaceHadRisen : (r : CatalogRun) → IsCutRun r → Type 0
+-- what the shelf counts of each place rose by what the sources of the place gave, where memory ran out
+abbrev pub EachPlaceHadRisen : (r : CatalogRun) → RanOutOfMemory r → Type 0
 EachPlaceHadRisen r cut = (place : List ℕ) → RoseByGiven (r.before place) (r.after place) (used_at place (put_back r.catalog cut.sources.places cut.now))

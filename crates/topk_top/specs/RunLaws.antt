@@ -9,7 +9,7 @@ use Rattle.catalog_text.specs.Catalog.{Listed as Entry, IsCatalog}
 use Rattle.command_line.specs.declared.running.RunOptions.{RunOptions}
 use Rattle.topk_base.specs.declared.settings.Settings.{Settings}
 use Rattle.catalog_run.specs.Runs.{CatalogRun, IsRun}
-use Rattle.catalog_run.specs.Cut.{IsCutRun}
+use Rattle.catalog_run.specs.Cut.{RanOutOfMemory}
 use Rattle.query_admission.specs.declared.line_outcome.LineOutcome.{LineOutcome}
 use Rattle.topk_top.specs.ToldTables.{AllBecome, ShelfTellsTables, view_told}
 use Rattle.topk_top.specs.Failures.{RefusesFew}
@@ -26,7 +26,7 @@ use Rattle.command_line.specs.declared.status.Status.TheVariants.{WriteFault, Op
 abbrev pub TellsCatalog : RunOptions → Call → List ℕ → Type 0
 TellsCatalog o c text = c.before.shelf.texts o.catalog ≡ Some text
 
--- a catalog's text is refused: what is written names its first record at fault, or a count rose that the status tells, or memory is wanting
+-- a catalog's text is refused: what is written names its first record at fault, or a count rose that the status tells, or memory runs out
 abbrev pub TurnsAway : List ℕ → RunOptions → Call → Status → Type 0
 TurnsAway text o c BadCatalog = (said : List ℕ) × RefusesCatalog text said × WroteWhole c said
 TurnsAway text o c OpenFault = TextFailed o.catalog c.before.shelf c.after.shelf
@@ -68,7 +68,7 @@ pub record WritesTheOne (c : Call) (catalog : List Entry) (bytes : List ℕ) (st
   pub comes : ComeTo catalog c.before.shelf.lists c.before.shelf.versions (lines bytes) status text
   pub only : (other : Status) (said : List ℕ) → ComeTo catalog c.before.shelf.lists c.before.shelf.versions (lines bytes) other said → (other ≡ status) × (said ≡ text)
 
--- where all is told and nothing fails, a run writes the one text, whatever its settings, unless memory is wanting
+-- where all is told and nothing fails, a run writes the one text, whatever its settings, unless memory runs out
 abbrev pub ToldRunsWriteTheOne : Type 0
 ToldRunsWriteTheOne =
     (o : RunOptions) (c : Call) (status : Status) (catalog : List Entry) (bytes : List ℕ) → TellsAll o c catalog bytes → EndsRunning o c status
@@ -88,7 +88,7 @@ pub record WroteTheSame (c d : Call) (status other : Status) : Type 0 where
   pub two : WroteWhole d text
   pub status_is : status ≡ other
 
--- the settings change nothing: two runs for which the same is told write the same text and end with the same status, unless memory is wanting
+-- the settings change nothing: two runs for which the same is told write the same text and end with the same status, unless memory runs out
 abbrev pub SettingsChangeNothing : Type 0
 SettingsChangeNothing =
     (o p : RunOptions) (c d : Call) (status other : Status) (catalog : List Entry) (bytes : List ℕ) → TellTheSame o p c d catalog bytes
@@ -108,13 +108,13 @@ RepliesAreSparing =
     (settings : Settings) (text bytes : List ℕ) (before after : Shelf) (status : Status) (said : List ℕ)
     (r : RepliesToLines settings text bytes before after status said) → IsSparing (lines_run settings r.catalog (lines bytes) before after) r.outcomes r.run
 
--- a run for which memory was wanting was sparing: by then a source had given no more than the lines asked of it, and no more than their one runs read of it; and
+-- a run that ran out of memory was sparing: by then a source had given no more than the lines asked of it, and no more than their one runs read of it; and
 -- what the shelf counted at a place rose by that
-pub record WasSparing (r : CatalogRun) (cut : IsCutRun r) : Type 0 where
+pub record WasSparing (r : CatalogRun) (cut : RanOutOfMemory r) : Type 0 where
   pub gave : EachHadGivenSparingly r cut
   pub counted : EachPlaceHadRisen r cut
 
--- lines are read sparingly also where memory is wanting
+-- lines are read sparingly also where memory runs out
 abbrev pub CutRunsAreSparing : Type 0
 CutRunsAreSparing =
     (settings : Settings) (text : List ℕ) (c : Call) (left : LinesLeft settings text c)

@@ -9,7 +9,7 @@ use Rattle.query_text.specs.Reading.{Reads}
 use Rattle.query_admission.specs.View.{View, AreTold}
 use Rattle.query_admission.specs.Causes.{QueryLine, admission_causes, RefusesFor, NoneOf, line_over}
 use Rattle.query_admission.specs.Becomes.{Becomes}
-use Rattle.query_admission.specs.declared.lists.Listed.{Listed}
+use Rattle.query_admission.specs.declared.lists.ListInfo.{ListInfo}
 use Rattle.catalog_text.specs.Catalog.{Listed as Entry}
 use Rattle.catalog_open.specs.Views.{entry_named}
 use Rattle.catalog_open.specs.Entries.{entry_at, entry_told}
@@ -19,7 +19,7 @@ use Rattle.query_admission.specs.declared.line_outcome.LineOutcome.{LineOutcome}
 use Rattle.catalog_run.specs.Runs.{CatalogRun}
 
 -- what the list at a place of a catalog says of itself, by its rows and its version: it has as many objects as rows, and is at this version
-abbrev pub told_listed : (List ℕ → Option (List Row)) → (List ℕ → Option ℕ) → List Entry → ℕ → Listed
+abbrev pub told_listed : (List ℕ → Option (List Row)) → (List ℕ → Option ℕ) → List Entry → ℕ → ListInfo
 told_listed lists versions catalog place = record {
   size = option_map length (entry_told lists catalog place);
   random = (entry_at catalog place).random;

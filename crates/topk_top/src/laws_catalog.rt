@@ -5,7 +5,7 @@ ghost use Rattle.ranked_list.specs.declared.row.Row.{Row};
 ghost use Rattle.query_run.specs.Causes.{IsRefusedForCause};
 ghost use Rattle.query_admission.specs.declared.line_outcome.LineOutcome.{LineOutcome as AnyOutcome};
 ghost use Rattle.catalog_run.specs.Runs.{CatalogRun, IsRun};
-ghost use Rattle.catalog_run.specs.Cut.{IsCutRun};
+ghost use Rattle.catalog_run.specs.Cut.{RanOutOfMemory};
 ghost use Rattle.topk_top.specs.ToldTables.{AllBecome, ShelfTellsTables, view_told};
 ghost use Rattle.topk_top.specs.Answers.{IsOneOverTold, IsRightLine};
 ghost use Rattle.topk_top.specs.Failures.{HasFailure, RefusesFew};
@@ -63,13 +63,13 @@ pub fn sources_give_what_is_asked()
     ensures places { (r : CatalogRun) (outcomes : List AnyOutcome) → (run : IsRun r outcomes) → EachPlaceRose r outcomes run }
 {}
 
-/// Where memory was wanting for a run, what was read by then is within the same bounds: no source gave a row beyond the reach of the greatest
+/// Where a run ran out of memory, what was read by then is within the same bounds: no source gave a row beyond the reach of the greatest
 /// depth to which a query asked that had begun, nor more grades than there are objects whose grades were asked for; one whose list can't be read
 /// in order gave no row; and where the sources tell lists that form tables for the lines that were admitted, no more than the one runs of these lines
 /// read. Where the shelf tells tables and nothing fails, the sources do so. What the shelf counts of a place rose by what the open sources of the place
 /// gave.
 pub fn cut_runs_give_what_is_asked()
-    ensures sources { (r : CatalogRun) → (cut : IsCutRun r) → EachHadGivenSparingly r cut }
-    ensures tables { (r : CatalogRun) → (cut : IsCutRun r) → ShelfTellsTables r → (lists : List (List Row)) × CutLinesHaveTables r cut lists }
-    ensures places { (r : CatalogRun) → (cut : IsCutRun r) → EachPlaceHadRisen r cut }
+    ensures sources { (r : CatalogRun) → (cut : RanOutOfMemory r) → EachHadGivenSparingly r cut }
+    ensures tables { (r : CatalogRun) → (cut : RanOutOfMemory r) → ShelfTellsTables r → (lists : List (List Row)) × CutLinesHaveTables r cut lists }
+    ensures places { (r : CatalogRun) → (cut : RanOutOfMemory r) → EachPlaceHadRisen r cut }
 {}

@@ -9,7 +9,7 @@ use super::laws_catalog::{
 };
 
 /// Where the shelf tells a text of the catalog's place that is no catalog, the run is refused and the text that it writes
-/// names the first record at fault, unless a call failed, whose count rose, or memory was wanting.
+/// names the first record at fault, unless a call failed, whose count rose, or memory ran out.
 pub fn wrong_catalogs_are_refused()
     ensures { WrongCatalogsAreRefused }
 {}
@@ -44,7 +44,7 @@ pub fn replies_are_sparing()
     failures_refuse_few_lines();
 }
 
-/// A run for which memory was wanting had read no more of any source than one that ends: no row beyond the reach of the greatest depth to which a
+/// A run that ran out of memory had read no more of any source than one that ends: no row beyond the reach of the greatest depth to which a
 /// line asked, no more grades than objects were asked for, no row of a list that can't be read in order, and over told tables no more than the
 /// one runs of the lines read.
 pub fn cut_runs_are_sparing()

@@ -1,6 +1,6 @@
-//! The top call: words and an input in, one text and a status out.
+//! The top call: words and an input in, one text and a status out; and what follows from its contract.
 //!
-//! Laws of the commands: what follows of their contracts alone, by which each top call ends, for every input, whatever sources it reads.
+//! The laws follow from the contracts of the commands alone, by which each top call ends, for every input, whatever sources it reads.
 //!
 //! Those on runs over a catalog say which outcomes lines have where the sources tell tables, what stands behind refusals, and how much the
 //! sources give. In a further one a node and a source over its host meet: what the source reads is what the node's list tells.

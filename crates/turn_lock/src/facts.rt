@@ -7,7 +7,7 @@ pub struct Tally {
     pub failed: u64,
     /// Calls whose answer couldn't be read.
     pub garbled: u64,
-    /// Calls that wanted memory.
+    /// Calls that ran out of memory.
     pub memory: u64,
 }
 

@@ -18,7 +18,7 @@ abbrev pub Counts : {T : Type 0} → ℕ → ℕ → Result T WireFault → Type
 Counts before now (Err LinkFault) = Rose before now
 Counts before now _ = now ≡ before
 
--- the fault is the link's, or want of memory
+-- the fault is the link's, or lack of memory
 abbrev pub IsOutside : WireFault → Type 0
 IsOutside LinkFault = ⊤
 IsOutside BadMessage = ⊥

@@ -12,7 +12,7 @@ use Rattle.command_line.specs.declared.status.Status.TheVariants.{Memory}
 use Rattle.command_line.proofs.Ending.{outside_at, shelf_at}
 use Rattle.catalog_run.specs.RunEnds.{EndsRunning, RunsOverCatalog, from_shelf}
 use Rattle.catalog_run.specs.Running.{lines_run, outcomes_text, run_status}
-use Rattle.catalog_run.specs.Cut.{IsCutRun}
+use Rattle.catalog_run.specs.Cut.{RanOutOfMemory}
 use Rattle.catalog_run.specs.Runs.{IsRun}
 use Rattle.catalog_run.proofs.Cuts.{cut_before}
 use Rattle.catalog_run.proofs.RunEnding.{asks_text, ends_at_fault, ends_left, ends_lines, ends_on, ends_unread, ends_untold, takes_lines, takes_none, text_given}
@@ -98,7 +98,7 @@ returns-in_default-ran-clause-ends g c = λ words.
       bytes = c.in-Ok-read_text.bytes.items;
       read = record { given = c.in-Ok-read_text.ensures.whole; faults = c.in-Ok-read_text.ensures.quiet };
       takes = takes;
-      cut = subst (λ ls. IsCutRun (lines_run o.settings c.in-Ok-read.catalog ls given after)) same c.in_default-ran.ensures.cut;
+      cut = subst (λ ls. RanOutOfMemory (lines_run o.settings c.in-Ok-read.catalog ls given after)) same c.in_default-ran.ensures.cut;
     })
     (record { held = Keeps-refl (g.K.Sink.held c.args.out.now); faults = refl }))
 

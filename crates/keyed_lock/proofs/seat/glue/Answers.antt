@@ -8,5 +8,5 @@ join_seat-requires g c = (
   search rules,
   search rules,
   search rules,
-  joins_at g.V.Kept.keeps _ _ _ c.args.seat.now.me c.args.other.me c.requires.poised.0 c.requires.rests.0 c.requires.rests.1,
+  joins_at g.V.LockInvariant.keeps _ _ _ c.args.seat.now.me c.args.other.me c.requires.poised.0 c.requires.rests.0 c.requires.rests.1,
 )

@@ -6,6 +6,6 @@ pub store-requires : goal.store-requires
 store-requires g c = (
   search rules,
   search rules,
-  releases_at g.V.Kept.keeps _ _ c.args.place _ _ _ c.args.value c.requires.place c.requires.poised c.requires.held
+  releases_at g.V.LockInvariant.keeps _ _ c.args.place _ _ _ c.args.value c.requires.place c.requires.poised c.requires.held
       c.requires.value c.exchange.ensures.3,
 )

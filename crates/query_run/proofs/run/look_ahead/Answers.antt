@@ -12,8 +12,8 @@ loop-list-init g c = record {
   asked = below_none _ c.args.query.now c.list_needed-needed.result c.args.pass.now;
 }
 
-pub foresee-requires-clause-reading : goal.foresee-requires-clause-reading
-foresee-requires-clause-reading g c = reading_ahead c.args.pass.now c.loop-list.pass c.args.query.now c.requires.reading c.loop-list.invariant.ahead
+pub prefetch-requires-clause-reading : goal.prefetch-requires-clause-reading
+prefetch-requires-clause-reading g c = reading_ahead c.args.pass.now c.loop-list.pass c.args.query.now c.requires.reading c.loop-list.invariant.ahead
 
 pub loop-list-preserved-then-list-needed : goal.loop-list-preserved-then-list-needed
 loop-list-preserved-then-list-needed g c = record {
@@ -24,10 +24,10 @@ loop-list-preserved-then-list-needed g c = record {
 
 pub loop-list-preserved : goal.loop-list-preserved
 loop-list-preserved g c = record {
-  own = c.foresee.ensures.own;
-  ahead = ahead_on c.args.pass.now c.loop-list.pass c.foresee.new.pass c.args.query.now c.loop-list.invariant.ahead c.foresee.ensures.ahead;
-  asked = below_next _ c.args.query.now c.loop-list.list c.list_needed-needed.result c.args.pass.now c.loop-list.pass c.foresee.new.pass c.loop-list.invariant.ahead c.foresee.ensures.asked
-      c.foresee.ensures.ahead c.loop-list.invariant.asked;
+  own = c.prefetch.ensures.own;
+  ahead = ahead_on c.args.pass.now c.loop-list.pass c.prefetch.new.pass c.args.query.now c.loop-list.invariant.ahead c.prefetch.ensures.ahead;
+  asked = below_next _ c.args.query.now c.loop-list.list c.list_needed-needed.result c.args.pass.now c.loop-list.pass c.prefetch.new.pass c.loop-list.invariant.ahead c.prefetch.ensures.asked
+      c.prefetch.ensures.ahead c.loop-list.invariant.asked;
 }
 
 pub returns-clause-asked : goal.returns-clause-asked

@@ -71,7 +71,7 @@ pub overflow_add-at : goal.overflow_add-at
 overflow_add-at c =
     omega (arith, word_within c.args.bytes.now c.loop-at.at c.in-Ok.count c.loop-at.invariant.within c.in-Ok.ensures.0.within, c.requires.short)
 
--- want of memory is free
+-- lack of memory is free
 memory_read : (line : List ℕ) (fault : QueryFault) → fault ≡ faults.Memory → WordsRead line (Err fault)
 memory_read line fault e = subst (λ f. WordsRead line (Err f)) (sym e) tt
 

@@ -2,7 +2,7 @@ use Rattle.std.proofs.Common.{◌≡◌, Err, rules}
 use Rattle.std.specs.Cow.{cow_str_bytes}
 use Rattle.server_conn.specs.Entries.{view_in}
 use Rattle.query_run.proofs.KnowsLaws.{knows_same}
-use Rattle.server_conn.proofs.EndLaws.{serves_line, serves_refused, by_test}
+use Rattle.server_conn.proofs.EndLaws.{serves_line, serves_refused, refusal_sent, by_test}
 use Rattle.server_conn.proofs.conn.answer_head.Goals as goal
 
 pub returns-in-Ok-clause-replied : goal.returns-in-Ok-clause-replied
@@ -24,5 +24,6 @@ returns-in-Err-clause-replied g c =
     let head = c.args.head.now in (
       Err c.in-Err.why,
       serves_refused (view_in c.args.catalog.now) head.method head.target.items c.args.pass.now c.in-Err.why c.in-Err.ensures,
-      by_test _ _ _ _ _ _ (Err c.in-Err.why) _ c.is_head-is_head.ensures c.refuse.ensures.sends,
+      by_test _ _ _ _ _ _ (Err c.in-Err.why) _ c.is_head-is_head.ensures
+          (refusal_sent _ _ _ _ _ _ _ _ c.unmoved.ensures c.refuse.ensures.sends),
     )

@@ -3,7 +3,7 @@ use Rattle.server_conn.specs.Entries.{view_in}
 use Rattle.server_conn.specs.Connections.{Visit}
 use Rattle.query_run.proofs.KnowsLaws.{knows_same}
 use Rattle.wire.proofs.RefusalLaws.{unrefused_rose}
-use Rattle.server_conn.proofs.EndLaws.{replied, unheard, unread}
+use Rattle.server_conn.proofs.EndLaws.{replied, unheard, unread, refusal_sent}
 use Rattle.server_conn.proofs.conn.serve_conn.Goals as goal
 
 pub returns-in-Ok-clause-ends : goal.returns-in-Ok-clause-ends
@@ -41,9 +41,9 @@ returns-in-Some-clause-ends g c =
       now = c.args.pass.now;
     } in
     unheard (view_in c.args.catalog.now) visit (g.L.Sink.held c.read_request.new.link) (g.L.Sink.faults c.read_request.new.link)
-    (g.L.Intake.faults c.read_request.new.link) c.in-Err.fault c.in-Some.why c.refuse.result (sym c.refusal_of.ensures ∙ c.in-Some.is)
+    (g.L.Intake.faults c.read_request.new.link) c.in-Err.fault c.in-Some.why c.unmoved.result (sym c.refusal_of.ensures ∙ c.in-Some.is)
     c.in-Err.ensures.answers c.in-Err.ensures.cause c.refuse.ensures.incoming.1 c.read_request.ensures.outgoing.0 c.read_request.ensures.outgoing.1 refl
-    c.refuse.ensures.sends
+    (refusal_sent _ _ _ _ _ _ _ _ c.unmoved.ensures c.refuse.ensures.sends)
 
 pub returns-in-None-clause-knows : goal.returns-in-None-clause-knows
 returns-in-None-clause-knows g c = knows_same c.args.pass.now
@@ -61,6 +61,6 @@ returns-in-None-clause-ends g c =
       before = c.args.pass.now;
       now = c.args.pass.now;
     } in
-    unread (view_in c.args.catalog.now) visit _ refl
+    unread (view_in c.args.catalog.now) visit _ c.unmoved-in-None.ensures
     (unrefused_rose visit.read_faults visit.read_faults_now c.in-Err.fault (sym c.refusal_of.ensures ∙ c.in-None.is) c.in-Err.ensures.cause)
     c.read_request.ensures.outgoing.0 c.read_request.ensures.outgoing.1 refl

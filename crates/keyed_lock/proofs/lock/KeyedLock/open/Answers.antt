@@ -4,7 +4,7 @@ use Rattle.keyed_lock.proofs.Seating.{opens_at}
 use Rattle.keyed_lock.proofs.lock.KeyedLock.open.Goals as goal
 
 pub new-requires : goal.new-requires
-new-requires g c = opens_at g.V.Kept.keeps _ _ _ c.args.values.now.items _ (c.as_slice.ensures.value ∙ c.in_ok-words.ensures) c.fill.ensures.filled
+new-requires g c = opens_at g.V.LockInvariant.keeps _ _ _ c.args.values.now.items _ (c.as_slice.ensures.value ∙ c.in_ok-words.ensures) c.fill.ensures.filled
     (omega (arith, c.len-count.ensures, c.args.values.now.ok.0)) c.requires.keep
 
 pub returns-clause-stay : goal.returns-clause-stay

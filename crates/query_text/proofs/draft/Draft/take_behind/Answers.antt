@@ -1,6 +1,6 @@
 use Rattle.std.proofs.Common.{refl, sym, subst, ◌∙◌}
 use Rattle.monotone_fn.specs.Shown.{tree_of}
-use Rattle.query_text.specs.declared.stage.Stage.TheVariants as stages
+use Rattle.query_text.specs.declared.parser_state.ParserState.TheVariants as stages
 use Rattle.query_text.specs.Draft.{Takes, AddsArgument, Closes}
 use Rattle.query_text.proofs.DraftLaws.{where_ok}
 use Rattle.query_text.proofs.TakeLaws.{takes_comma, takes_close}

@@ -1,6 +1,6 @@
 use Rattle.std.proofs.Common.{refl, sym, subst, arith}
 use Rattle.query_text.proofs.ListLaws.{length-bytes_of}
-use Rattle.query_text.specs.declared.stage.Stage.TheVariants as stages
+use Rattle.query_text.specs.declared.parser_state.ParserState.TheVariants as stages
 use Rattle.query_text.specs.Draft.{Takes}
 use Rattle.query_text.proofs.TakeLaws.{takes_name}
 use Rattle.query_text.proofs.draft.Draft.take_name.Goals as goal

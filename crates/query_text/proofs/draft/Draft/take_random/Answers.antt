@@ -1,7 +1,7 @@
 use Rattle.std.proofs.Common.{refl}
 use Rattle.std.proofs.lemmas.Result.{err_from_is_err_and}
 use Rattle.topk_base.specs.declared.TheConstants.{MAX_NUMBER}
-use Rattle.query_text.specs.declared.stage.Stage.TheVariants as stages
+use Rattle.query_text.specs.declared.parser_state.ParserState.TheVariants as stages
 use Rattle.query_text.proofs.TakeLaws.{misses_number, takes_random}
 use Rattle.query_text.proofs.draft.Draft.take_random.Goals as goal
 

@@ -1,6 +1,6 @@
 use Rattle.std.proofs.Common.{refl}
 use Rattle.std.proofs.lemmas.List.Elements.{same_from_all_zip}
-use Rattle.query_run.proofs.inquiry.Inquiry.make.Goals as goal
+use Rattle.query_run.proofs.running_query.RunningQuery.make.Goals as goal
 
 pub returns-in-Ok-make : goal.returns-in-Ok-make
 returns-in-Ok-make c = record {

@@ -5,7 +5,7 @@ ghost use Rattle.query_text.specs.Course.{may_end};
 
 /// Which piece of a query line comes next.
 #[derive(Clone, Copy)]
-pub enum Stage {
+pub enum ParserState {
     /// `top `
     Top,
     /// k
@@ -47,8 +47,11 @@ pub enum Stage {
 }
 
 /// Whether a line may end before what comes next.
-pub fn may_end(stage: Stage) -> bool
+pub fn may_end(stage: ParserState) -> bool
     ensures { result ≡ may_end stage }
 {
-    matches!(stage, Stage::Options | Stage::Priced | Stage::Done)
+    matches!(
+        stage,
+        ParserState::Options | ParserState::Priced | ParserState::Done
+    )
 }

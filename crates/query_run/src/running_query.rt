@@ -20,7 +20,7 @@ use std::alloc::Global;
 /// A query as it stands: the numbers of the sources of its lists, its machine with the transcript, what it waits for, and why it is
 /// refused, if it is.
 #[derive(Drop)]
-pub struct Inquiry {
+pub struct RunningQuery {
     pub sources: Vec<u32>,
     pub machine: Machine,
     pub waiting: Waiting,
@@ -72,7 +72,7 @@ fn refused(refusal: Refusal) -> Ended
 }
 
 /// One turn of a query that hasn't ended: a look at the source of what it needs, and what it makes of the answer.
-pub fn turn(states: &mut Vec<SourceState>, query: &mut Inquiry)
+pub fn turn(states: &mut Vec<SourceState>, query: &mut RunningQuery)
     requires served { IsServed states.old.items query.old }
     requires going { is_ended query.old ≡ false }
     requires sound { All IsSound states.old.items }
@@ -86,13 +86,13 @@ pub fn turn(states: &mut Vec<SourceState>, query: &mut Inquiry)
 }
 
 /// Lets queries go, before they have ended or after. Who owns some lets them go by this call, so that it is proved once.
-pub fn let_go(queries: Vec<Inquiry>) {
+pub fn let_go(queries: Vec<RunningQuery>) {
     drop(queries);
 }
 
-impl Inquiry {
+impl RunningQuery {
     /// A query that is ready, before any access. Its expression and the numbers of its sources are copied.
-    pub fn make(alloc: Global, ready: &Ready) -> Result<Inquiry, Memory>
+    pub fn make(alloc: Global, ready: &Ready) -> Result<RunningQuery, Memory>
         requires { IsReady ready.now }
         ensures { IfOk result (IsFresh ready.now) }
     {
@@ -100,7 +100,7 @@ impl Inquiry {
             return Err(Memory);
         };
         match Machine::make(alloc, ready) {
-            Ok(machine) => Ok(Inquiry {
+            Ok(machine) => Ok(RunningQuery {
                 sources,
                 machine,
                 waiting: no_waiting(),
@@ -147,7 +147,7 @@ impl Inquiry {
         requires { is_ended self ≡ true }
         ensures { IfOk result (EndsAs self) }
     {
-        let Inquiry {
+        let RunningQuery {
             sources,
             machine,
             refusal,

@@ -1,15 +1,26 @@
--- How the file of a place is read whole, and the list that it tells.
-use Rattle.std.specs.Prelude.{◌≡◌, ℕ, List, Option, Result, Ok, Err, ◌⊎◌}
+-- What a shelf of files is, and what it tells.
+use Rattle.std.specs.Prelude.{◌≡◌, ℕ, List, Option, Result, Ok, Err, refl, ◌⊎◌}
+use Rattle.std.specs.Coded.{Coded, code_by, coded×}
 use Rattle.std.specs.Global.{Vec}
 use Rattle.std.specs.Option.{option_and_then}
 use Rattle.ranked_list.specs.declared.row.Row.{Row}
 use Rattle.source_api.specs.declared.source.Trouble.{Trouble}
 use Rattle.source_api.specs.declared.source.FailKind.TheVariants.{Failed, Memory}
 use Rattle.source_api.specs.declared.source.Trouble.TheVariants.{Fail}
-use Rattle.source_api.specs.Places.{text_limit}
+use Rattle.source_api.specs.Places.{Noted, text_limit}
 use Rattle.tk_io.specs.Whole.{GaveAll, StopsReading}
 use Rattle.tk_io.specs.declared.whole.ReadError.TheVariants as stop
 use Rattle.file_source.specs.ListFile.{list_records, told_records}
+
+-- the files, and what is counted by place
+pub record FilesShelved (F : Type 0) : Type 0 where
+  pub files : F
+  pub ledger : List Noted
+
+-- it is stored as the pair of its fields
+abbrev pub shelved_code : {F : Type 0} → Coded F → Coded (List Noted) → Coded (FilesShelved F)
+shelved_code {F} files ledger =
+    code_by (F × List Noted) (coded× files ledger) (λ s. (s.files, s.ledger)) (λ p. record { files = p.0; ledger = p.1 }) (λ _. refl)
 
 -- the list that a list file of these bytes tells
 abbrev pub told_rows : List ℕ → Option (List Row)

@@ -1,5 +1,5 @@
 use Rattle.query_run.proofs.Ending.{ended_done, refused_ends}
-use Rattle.query_run.proofs.inquiry.Inquiry.end.Goals as goal
+use Rattle.query_run.proofs.running_query.RunningQuery.end.Goals as goal
 
 pub answer-requires : goal.answer-requires
 answer-requires c = ended_done c.args.self c.requires c.in-None.is

@@ -1,7 +1,7 @@
 ghost use Rattle.std.specs.Prelude.{ℕ};
 
 /// A value that keeps a fact with a key and with its place, whoever changes it.
-pub trait Kept {
+pub trait LockInvariant {
     /// What the fact compares the value with. A lock has one key for all its values, fixed when it is opened.
     type Key;
 

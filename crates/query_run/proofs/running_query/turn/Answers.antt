@@ -1,6 +1,6 @@
 use Rattle.std.proofs.Common.{refl, ◌∙◌}
 use Rattle.query_run.proofs.Turning.{turn_may, turn_made}
-use Rattle.query_run.proofs.inquiry.turn.Goals as goal
+use Rattle.query_run.proofs.running_query.turn.Goals as goal
 
 pub answer-requires-clause-may : goal.answer-requires-clause-may
 answer-requires-clause-may c =

@@ -1,8 +1,7 @@
-//! The shelf of a process over a file in memory, whose reads fail in turn.
+//! The shelf of files over a file in memory, whose reads fail in turn.
 
 use super::none_is_wrong;
-use file_source::FileTree;
-use place_shelf::{DialMaker, PlaceShelf};
+use file_source::{FileShelf, FileTree};
 use source_api::{FailKind, Shelf, Trouble};
 use std::alloc::Global;
 use test_mem_source::{Step, first_wrong};
@@ -55,7 +54,12 @@ static READS: [Read; 7] = [
 ];
 
 /// Whether the shelf gives the whole text, or fails to.
-fn gives_text<H: Shelf>(alloc: Global, shelf: &mut H, place: &str, is_there: bool) -> bool {
+fn gives_text<F: FileTree>(
+    alloc: Global,
+    shelf: &mut FileShelf<'_, F>,
+    place: &str,
+    is_there: bool,
+) -> bool {
     match shelf.text(alloc, place) {
         Ok(text) => is_there && text.as_slice() == TEXT,
         Err(trouble) => !is_there && trouble == Trouble::Fail(FailKind::Failed),
@@ -63,7 +67,12 @@ fn gives_text<H: Shelf>(alloc: Global, shelf: &mut H, place: &str, is_there: boo
 }
 
 /// Whether the shelf gives the whole source, or fails to.
-fn gives_source<H: Shelf>(alloc: Global, shelf: &mut H, place: &str, is_there: bool) -> bool {
+fn gives_source<F: FileTree>(
+    alloc: Global,
+    shelf: &mut FileShelf<'_, F>,
+    place: &str,
+    is_there: bool,
+) -> bool {
     match shelf.take(alloc, place) {
         Ok(mut source) => {
             let wrong = first_wrong(alloc, &mut source, STEPS);
@@ -75,17 +84,8 @@ fn gives_source<H: Shelf>(alloc: Global, shelf: &mut H, place: &str, is_there: b
 }
 
 /// Whether a shelf of these files has a text and a source at the place.
-fn gives_both<F: FileTree, M: DialMaker>(
-    alloc: Global,
-    files: &F,
-    dials: &M,
-    place: &str,
-    is_there: bool,
-) -> bool
-where
-    M::D: Send,
-{
-    let mut shelf = PlaceShelf::make(alloc, files, dials);
+fn gives_both<F: FileTree>(alloc: Global, files: &F, place: &str, is_there: bool) -> bool {
+    let mut shelf = FileShelf::make(alloc, files);
     let is_so = gives_text(alloc, &mut shelf, place, is_there)
         && gives_source(alloc, &mut shelf, place, is_there);
     drop(shelf);
@@ -93,26 +93,20 @@ where
 }
 
 /// Whether a shelf over the file answers so.
-fn answers_so<M: DialMaker>(alloc: Global, dials: &M, read: &Read) -> bool
-where
-    M::D: Send,
-{
+fn answers_so(alloc: Global, read: &Read) -> bool {
     let (fails, place, is_there) = read;
     let file = OneFile {
         alloc,
         text: TEXT,
         fails,
     };
-    gives_both(alloc, &file, dials, place, *is_there)
+    gives_both(alloc, &file, place, *is_there)
 }
 
 /// The number of the first row that is answered otherwise.
-fn first_other<M: DialMaker>(alloc: Global, dials: &M, reads: &[Read]) -> Option<usize>
-where
-    M::D: Send,
-{
+fn first_other(alloc: Global, reads: &[Read]) -> Option<usize> {
     for (number, read) in reads.iter().enumerate() {
-        if !answers_so(alloc, dials, read) {
+        if !answers_so(alloc, read) {
             return Some(number);
         }
     }
@@ -121,5 +115,5 @@ where
 
 #[test]
 fn gives_a_whole_file_or_none(rt: HostRuntime) {
-    none_is_wrong(&rt, first_other(rt.alloc(), &rt, &READS));
+    none_is_wrong(&rt, first_other(rt.alloc(), &READS));
 }

@@ -1,7 +1,7 @@
 use Rattle.source_pool.specs.Remembering.{Remembers}
 use Rattle.source_pool.specs.Looks.{AsksAhead, IsWithin}
 use Rattle.source_pool.proofs.PassLaws.{pass_given, others_given, changed_there, kept_there}
-use Rattle.source_pool.proofs.pool.Pool.foresee.Goals as goal
+use Rattle.source_pool.proofs.pool.Pool.prefetch.Goals as goal
 
 pub returns-clause-own : goal.returns-clause-own
 returns-clause-own g c = pass_given c.args.self.now c.self.inside.locks.items c.args.pass.now c.pass.inside.holds.items c.args.source _ _ c.self.view_is c.pass.view_is

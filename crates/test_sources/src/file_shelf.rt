@@ -1,8 +1,7 @@
-//! The shelf of a process, over real files.
+//! The shelf of real files.
 
 use super::none_is_wrong;
-use file_source::FileTree;
-use place_shelf::{DialMaker, PlaceShelf};
+use file_source::{FileShelf, FileTree};
 use source_api::{FailKind, Shelf, Trouble};
 use std::alloc::Global;
 use std::fs;
@@ -116,9 +115,9 @@ fn clear<R: Alloc + Files>(files: &R) -> bool {
 }
 
 /// Whether the shelf answers with a text of so many bytes at the place, or with this trouble.
-fn gives_text<H: Shelf>(
+fn gives_text<F: FileTree>(
     alloc: Global,
-    shelf: &mut H,
+    shelf: &mut FileShelf<'_, F>,
     place: &str,
     bytes: Result<usize, Trouble>,
 ) -> bool {
@@ -129,7 +128,12 @@ fn gives_text<H: Shelf>(
 }
 
 /// Whether the shelf gives a source at the place that answers so. It is put back.
-fn gives_list<H: Shelf>(alloc: Global, shelf: &mut H, place: &str, steps: &[Step]) -> bool {
+fn gives_list<F: FileTree>(
+    alloc: Global,
+    shelf: &mut FileShelf<'_, F>,
+    place: &str,
+    steps: &[Step],
+) -> bool {
     match shelf.take(alloc, place) {
         Ok(mut source) => {
             let wrong = first_wrong(alloc, &mut source, steps);
@@ -141,7 +145,7 @@ fn gives_list<H: Shelf>(alloc: Global, shelf: &mut H, place: &str, steps: &[Step
 }
 
 /// Whether the shelf fails to give a source at the place.
-fn gives_no_source<H: Shelf>(alloc: Global, shelf: &mut H, place: &str) -> bool {
+fn gives_no_source<F: FileTree>(alloc: Global, shelf: &mut FileShelf<'_, F>, place: &str) -> bool {
     match shelf.take(alloc, place) {
         Ok(source) => {
             shelf.put_back(place, source);
@@ -152,7 +156,12 @@ fn gives_no_source<H: Shelf>(alloc: Global, shelf: &mut H, place: &str) -> bool 
 }
 
 /// Whether the shelf gives this at the place.
-fn gives_so<H: Shelf>(alloc: Global, shelf: &mut H, place: &str, what: Gives) -> bool {
+fn gives_so<F: FileTree>(
+    alloc: Global,
+    shelf: &mut FileShelf<'_, F>,
+    place: &str,
+    what: Gives,
+) -> bool {
     match what {
         Gives::Text(bytes) => gives_text(alloc, shelf, place, Ok(bytes)),
         Gives::List(steps) => gives_list(alloc, shelf, place, steps),
@@ -164,7 +173,11 @@ fn gives_so<H: Shelf>(alloc: Global, shelf: &mut H, place: &str, what: Gives) ->
 }
 
 /// The number of the first place at which a shelf gives something else.
-fn first_other<H: Shelf>(alloc: Global, shelf: &mut H, places: &[(&str, Gives)]) -> Option<usize> {
+fn first_other<F: FileTree>(
+    alloc: Global,
+    shelf: &mut FileShelf<'_, F>,
+    places: &[(&str, Gives)],
+) -> Option<usize> {
     for (number, (place, what)) in places.iter().enumerate() {
         if !gives_so(alloc, shelf, place, *what) {
             return Some(number);
@@ -173,12 +186,9 @@ fn first_other<H: Shelf>(alloc: Global, shelf: &mut H, places: &[(&str, Gives)])
     None
 }
 
-/// The same of the shelf of real files; no host is asked.
-fn first_other_file<F: FileTree, M: DialMaker>(alloc: Global, files: &F, dials: &M) -> Option<usize>
-where
-    M::D: Send,
-{
-    let mut shelf = PlaceShelf::make(alloc, files, dials);
+/// The same of the shelf of real files.
+fn first_other_file<F: FileTree>(alloc: Global, files: &F) -> Option<usize> {
+    let mut shelf = FileShelf::make(alloc, files);
     let other = first_other(alloc, &mut shelf, &PLACES);
     drop(shelf);
     other
@@ -188,7 +198,7 @@ where
 fn reads_files_that_are_not_too_long(rt: HostRuntime) {
     clear(&rt);
     let are_written = are_files_written(rt.alloc(), &rt);
-    let other = first_other_file(rt.alloc(), &rt, &rt);
+    let other = first_other_file(rt.alloc(), &rt);
     let is_cleared = clear(&rt);
     none_is_wrong(&rt, other);
     assert!(rt; are_written && is_cleared);
