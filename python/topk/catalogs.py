@@ -28,7 +28,7 @@ from topk.limits import MAX_CATALOG, MAX_GRADE, MAX_ROWS, NAME
 from topk.program import Program, find_program
 from topk.questions import Question, question
 
-__all__ = ["CATALOG", "Catalog", "Entry", "KEYS", "write_lists"]
+__all__ = ["CATALOG", "Catalog", "Entry", "KEYS", "read_keys", "write_keys", "write_lists"]
 
 CATALOG, KEYS, LISTS = "catalog.csv", "keys.csv", "lists"
 
@@ -71,7 +71,7 @@ class Catalog:
         place = pathlib.Path(path)
         place = place / CATALOG if place.is_dir() else place
         keys = place.parent / KEYS
-        return cls(place, _entries(place), _keys(keys) if keys.exists() else {})
+        return cls(place, _entries(place), read_keys(keys) if keys.exists() else {})
 
     def __repr__(self) -> str:
         return f"Catalog({os.fspath(self.path)!r}), with the lists {', '.join(self.entries)}"
@@ -177,13 +177,18 @@ def write_lists(
         _replace(place / entry.place, "object,grade\n" + "%d,%d\n" * (len(rows) // 2) % tuple(rows))
     made = dict(zip(objects, keys))
     progress(KEYS)
-    _replace(place / KEYS, _csv([("object", "key"), *made.items()]))
+    write_keys(place / KEYS, made, made.values())
     progress(CATALOG)
     _replace(
         place / CATALOG,
         _csv([("name", "place", "random"), *((it.name, it.place, "yes" if it.random else "no") for it in entries)]),
     )
     return Catalog(place / CATALOG, entries, made)
+
+
+def write_keys(path: str | os.PathLike[str], objects: Iterable[int], keys: Iterable[Any]) -> None:
+    """Writes a file of keys: which number stands for which key."""
+    _replace(pathlib.Path(path), _csv([("object", "key"), *zip(objects, keys)]))
 
 
 def _replace(path: pathlib.Path, text: str) -> None:
@@ -229,8 +234,8 @@ def _entries(path: pathlib.Path) -> list[Entry]:
     return entries
 
 
-def _keys(path: pathlib.Path) -> dict[int, str]:
-    """The keys of a file of keys."""
+def read_keys(path: pathlib.Path) -> dict[int, str]:
+    """The keys of a file of keys, by their objects."""
     try:
         return {int(item): key for item, key, *_ in _records(path, ("object", "key"))}
     except ValueError as fault:
