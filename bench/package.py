@@ -2,11 +2,13 @@
 """How long the Python package takes from a CSV file to the ten best rows, beside pandas, which reads, scales and sorts
 the same.
 
-Use, with a built program or library:  bench/package.py [--rows 200000] [--rounds 5] [--python /usr/bin/python3]
+Use, with a built program or library:
+  bench/package.py [--rows 200000] [--rounds 5] [--python /usr/bin/python3] [--command]
 
-`--python` is a Python that has pandas. Each is a process of its own, and they take turns. Seconds are those of the
-processor, of the process and of those that it started, the least of the rounds: with its start and its imports, and
-without them. pandas rounds nothing and gives no certificate.
+With `--command` it is `python3 -m topk rank` that is measured, to its table. `--python` is a Python that has pandas.
+Each is a process of its own, and they take turns. Seconds are those of the processor, of the process and of those that
+it started, the least of the rounds: with its start and its imports, and without them. pandas rounds nothing and gives
+no certificate.
 """
 from __future__ import annotations
 
@@ -33,6 +35,12 @@ table = Table.from_csv(sys.argv[1], "name", criteria=[
 answer = table.top(10, {"price": 2, "rating": 1, "distance": 1, "stars": 1})
 for row in answer:
     print(row.place, row.key, row.score, *row.values.values())
+print(seconds(), seconds() - began, file=sys.stderr)
+"""
+COMMAND = """
+began = seconds()
+from topk.commands import main
+main(["rank", sys.argv[1], "--key", "name", "--by", "price:low*2", "--by", "rating", "--by", "distance:low", "--by", "stars"])
 print(seconds(), seconds() - began, file=sys.stderr)
 """
 PANDAS = """
@@ -74,16 +82,18 @@ def main() -> None:
     words.add_argument("--rows", type=int, default=200_000)
     words.add_argument("--rounds", type=int, default=5)
     words.add_argument("--python", default=sys.executable)
+    words.add_argument("--command", action="store_true")
     given = words.parse_args()
+    ours = COMMAND if given.command else OURS
     with tempfile.TemporaryDirectory() as place:
         path = pathlib.Path(place) / "hotels.csv"
         write_table(path, given.rows)
         rounds = [
-            (measured(given.python, OURS, path), measured(given.python, PANDAS, path)) for _ in range(given.rounds)
+            (measured(given.python, ours, path), measured(given.python, PANDAS, path)) for _ in range(given.rounds)
         ]
     for number, name in enumerate(("whole process", "without imports")):
-        ours, theirs = (min(it[side][number] for it in rounds) for side in (0, 1))
-        print(f"{name}: package {ours:.2f} s, pandas {theirs:.2f} s, {ours / theirs:.1f} times")
+        least, theirs = (min(it[side][number] for it in rounds) for side in (0, 1))
+        print(f"{name}: package {least:.2f} s, pandas {theirs:.2f} s, {least / theirs:.1f} times")
 
 
 if __name__ == "__main__":
