@@ -108,8 +108,8 @@ def command_settings(program: str) -> str | None:
     rows = [
         (("--by", "price:low:rank", "--by", "rating:missing=1000000"), "Krone Post", "sum"),
         (("--by", "price:low", "--by", "rating", "--how", "min"), "Krone", "min"),
-        (("--by", "price:low:name=cheap", "--by", "rating", "--score", "min(cheap,2*rating)"), "Krone", "min(cheap"),
-        (("--by", "price:low:reciprocal-rank=60", "--by", "rating:reciprocal-rank"), "Krone", "sum"),
+        (("--by", "price:low:name=cheap", "--by", "rating", "--score", "min(cheap,wsum(2*rating))"), "Krone", "min(cheap"),
+        (("--by", "price:low:reciprocal-rank=60", "--by", "rating:reciprocal-rank"), "Linde Krone", "sum"),
         (("--by", "price:low:no-grades", "--by", "rating", "--top", "1"), "Krone", "using nra"),
         (("--by", "price", "--using", "theta 3/2", "--top", "1"), "Adler, old", "3/2"),
         (("--by", "price:low", "--cost", "1", "10", "--room", "9"), "Linde Krone Post Adler, old", "cost 1 10 room 9"),

@@ -30,7 +30,7 @@ def add_to(commands: Any) -> None:
     add_table(made)
     made.add_argument("--top", type=int, default=10, metavar="K", help="how many rows (10)")
     made.add_argument("--how", default="sum", choices=("sum", "min", "max", "median"), help="puts grades together (sum)")
-    made.add_argument("--score", metavar="EXPRESSION", help="in place of --how and weights, as 'min(price,2*rating)'")
+    made.add_argument("--score", metavar="EXPRESSION", help="in place of --how and weights, as 'min(price,wsum(2*rating))'")
     made.add_argument("--using", metavar="ALGORITHM", help="as in a query line (chosen, and said)")
     made.add_argument("--cost", nargs=2, type=int, metavar=("ROW", "GRADE"), help="what a row and a grade cost (1 1)")
     made.add_argument("--room", type=int, metavar="N", help="how many objects may be seen at most")
