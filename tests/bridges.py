@@ -1,6 +1,7 @@
-"""Tests of the bridges in examples/bridges: list nodes over tables of SQLite and PostgreSQL, as processes on free ports of 127.0.0.1.
+"""Tests of the bridges in examples/bridges: list nodes over tables of SQLite and PostgreSQL, and over sorted sets of Redis, as processes on
+free ports of 127.0.0.1.
 
-Each test runs for both databases. That of PostgreSQL is a cluster of its own in a temporary folder, behind a socket there, which runs
+Each test of tables runs for both databases. That of PostgreSQL is a cluster of its own in a temporary folder, behind a socket there, which runs
 as another user where this process is root; it is stopped when this process ends.
 """
 from __future__ import annotations
@@ -27,14 +28,14 @@ import time
 from collections.abc import Callable, Iterable, Iterator
 from typing import Any, Protocol
 
-from machine import SECONDS, Skipped, needs, no_memory, no_room, over_network, peer
+from machine import SECONDS, Skipped, free_port, needs, no_memory, no_room, over_network, path_of, peer
 from support import answer, received, refusal
 
 EXAMPLES = pathlib.Path(__file__).resolve().parent.parent / "examples"
 BRIDGES = EXAMPLES / "bridges"
 # A name of which each character but the first would do harm where it isn't quoted.
 TABLE = "l `x` \"y\" 'z' %s :a ?; drop table l --"
-WORDS = ("--table", TABLE, "--object", "the object", "--grade", "A", "--grade", "B=%(second) \"grade\"")
+WORDS = ("--table", TABLE, "--object", "the object", "--grade", "A", "--grade", "B=%(second) \"grade\"", "--version", "0")
 ROWS = [(0, 0, 1_000_000), (1, 900, 500), (2, 800, 700), (3, 100, 600), (4_294_967_295, 800, 700)]
 ANSWERS = {
     "/lists/A/size": '{"count":5}',
@@ -99,6 +100,9 @@ class Base(Protocol):
     def forget(self) -> None:
         """Ends all connections, where there are any."""
 
+    def indexes(self) -> list[str]:
+        """The names of the indexes, but those that the database makes of its own."""
+
 
 class Sqlite:
     """A file."""
@@ -123,6 +127,10 @@ class Sqlite:
 
     def forget(self) -> None:
         pass
+
+    def indexes(self) -> list[str]:
+        with contextlib.closing(sqlite3.connect(self.path)) as connection:
+            return [name for name, in connection.execute("select name from sqlite_master where type = 'index' and sql is not null order by name")]
 
 
 class Cluster:
@@ -187,6 +195,10 @@ class Postgres:
         others = "pg_stat_activity where backend_type = 'client backend' and pid <> pg_backend_pid()"
         self.do(f"select pg_terminate_backend(pid) from {others}; do $$ begin while exists (select from {others}) loop "
                 "perform pg_sleep(0.01), pg_stat_clear_snapshot(); end loop; end $$;")
+
+    def indexes(self) -> list[str]:
+        asked = "select indexname from pg_indexes where schemaname = 'public' and indexname not like '%pkey' order by indexname collate \"C\""
+        return subprocess.run([*self._reached, "-At", "-c", asked, self._base], capture_output=True, text=True, timeout=SECONDS, check=True).stdout.split()
 
 
 def programs(name: str) -> Iterator[pathlib.Path]:
@@ -340,7 +352,7 @@ def faults(base: Base) -> str | None:
     base.do("create table t (object bigint, grade integer); insert into t values (1, 5);")
     page, size, grade = "/lists/grade/page?from=0&count=9", "/lists/grade/size", "/lists/grade/grade?object=1"
     wrong, rows = refusal(500, "Internal Server Error"), []
-    with node(base, "--table", "t", "--grade", "grade") as port:
+    with node(base, "--table", "t", "--grade", "grade", "--version", "0") as port:
         rows.append(("at first", got(port, page), answer('{"rows":[[1,5]]}')))
         base.do("alter table t rename to away;")
         rows += [(f"without the table, {it}", got(port, it), wrong) for it in (size, page, grade)]
@@ -360,7 +372,7 @@ def versions(base: Base) -> str | None:
     base.fill("t", ((it, 1000 - it) for it in range(1000)))
     change = "begin; insert into t select object + 1000, grade + 1000 from t where object < 5; update versions set number = 8; commit;"
     table, asked = ("--table", "t", "--grade", "grade"), "/lists/grade/page?from=600&count=1"
-    with node(base, *table) as plain, node(base, *table, "--version-query", "select number from versions") as told, \
+    with node(base, *table, "--version", "0") as plain, node(base, *table, "--version-query", "select number from versions") as told, \
             node(base, *table, "--version", "9223372036854775807") as stated:
         rows = [
             ("size, version stated", got(stated, "/lists/grade/size"), answer('{"count":1000,"version":9223372036854775807}')),
@@ -419,7 +431,7 @@ def great_list(base: Base) -> str | None:
     base.fill("t", ((it, grade, 5) for it, grade in enumerate(grades)))
     base.do("create index t_many on t (many desc, object); create index t_one on t (one desc, object);")
     wanted = {"many": sorted(([it, grade] for it, grade in enumerate(grades)), key=lambda row: (-row[1], row[0])), "one": [[it, 5] for it in range(count)]}
-    with node(base, "--table", "t", "--grade", "many", "--grade", "one") as port:
+    with node(base, "--table", "t", "--grade", "many", "--grade", "one", "--version", "0") as port:
         for name, rows in wanted.items():
             asked = functools.partial("/lists/{}/page?from={}&count={}".format, name)
             places = [(199_900, 200), (0, 100), (255, 3), (256, 1), (511, 1000), (99_999, 10_000), (190_000, 10_000), (count, 1)]
@@ -457,7 +469,7 @@ def clients(base: Base) -> str | None:
                 return wrong
         return None
 
-    with node(base, "--table", "t", "--grade", "grade") as port, contextlib.ExitStack() as links, concurrent.futures.ThreadPoolExecutor(8) as pool:
+    with node(base, "--table", "t", "--grade", "grade", "--version", "0") as port, contextlib.ExitStack() as links, concurrent.futures.ThreadPoolExecutor(8) as pool:
         for part in (b"", b"GET /lists/grade/si"):
             links.enter_context(socket.create_connection(("127.0.0.1", port), timeout=SECONDS)).sendall(part)
         with socket.create_connection(("127.0.0.1", port), timeout=SECONDS) as left:
@@ -472,7 +484,7 @@ def hotels(base: Base) -> str | None:
     names = re.findall(r"^(\w+),http://127\.0\.0\.1:8001/lists/\1,(?:yes|no)$", (EXAMPLES / "catalog_http.csv").read_text(encoding="utf-8"), re.M)
     if len(names) != 4:
         return f"the catalog names {names}"
-    with node(base, "--table", "hotels", "--object", "id", *[word for name in names for word in ("--grade", name)]) as port:
+    with node(base, "--table", "hotels", "--object", "id", *[word for name in names for word in ("--grade", name)], "--version", "0") as port:
         rows = []
         for name in names:
             lines = (files / f"{name}.csv").read_text(encoding="utf-8").split()[1:]
@@ -480,11 +492,219 @@ def hotels(base: Base) -> str | None:
     return first_difference(rows)
 
 
+def kinds(base: Base) -> str | None:
+    """A column that isn't of whole numbers is refused at the start, with its row, its kind and the way out."""
+    base.do("create table t (object bigint, good integer, part real, word text); insert into t values (7, 5, 4.5, 'x');")
+    base.do("create table named (object text, grade integer); insert into named values ('adler', 5);")
+    base.do("create table high (object bigint, grade integer); insert into high values (1, 5), (2, 1000001), (3, 6);")
+    cases = [("t", "part", "the row of the object 7 has 4.5 in the column part, which is real", "round(part"),
+             ("t", "word", "the row of the object 7 has 'x' in the column word, which is text", "whole grades"),
+             ("named", "grade", "the row of the object 'adler' has 'adler' in the column object, which is text", "--object"),
+             ("high", "grade", "the row of the object 2 has 1000001 in the column grade", "from 0 to 1000000")]
+    for table, column, said, cure in cases:
+        words = [*base.words, "--table", table, "--grade", column, "--at", "0"]
+        done = subprocess.run(words, capture_output=True, text=True, timeout=SECONDS, check=False)
+        if done.returncode != 1 or done.stdout or not done.stderr.startswith(f"{column}: {said}") or cure not in done.stderr:
+            return f"{table}.{column}: ended with {done.returncode} and wrote {done.stdout!r}, {done.stderr[-400:]!r}"
+    return None
+
+
+def makes_indexes(base: Base) -> str | None:
+    """`--make-index` makes the index of each column of grades, and that of the objects where they are no key; a second start finds them."""
+    base.do("create table t (object bigint, one integer, two integer); create table keyed (object bigint primary key, one integer);")
+    base.do("insert into t values (1, 5, 6), (2, 4, 7); insert into keyed values (1, 5); create table twice (object bigint, one integer);")
+    base.do("insert into twice values (1, 5), (1, 4);")
+    for _ in range(2):
+        with node(base, "--table", "t", "--grade", "one", "--grade", "two", "--make-index", "--version", "0") as port:
+            found = body(port, "/lists/two/page?from=0&count=2")
+    with node(base, "--table", "keyed", "--grade", "one", "--make-index"):
+        pass
+    words = [*base.words, "--table", "twice", "--grade", "one", "--make-index", "--at", "0"]
+    twice = subprocess.run(words, capture_output=True, text=True, timeout=SECONDS, check=False)
+    return first_difference([("a page", found, {"rows": [[2, 7], [1, 6]]}), ("an object twice", (twice.returncode, twice.stderr[:5]), (1, "one: ")),
+                             ("the indexes", base.indexes(), ["keyed_by_one", "t_by_object", "t_by_one", "t_by_two", "twice_by_one"])])
+
+
+def own_versions(base: Base) -> str | None:
+    """Where no version is named, the database's own is stated: one while nothing changes, a greater one behind a change and a new start."""
+    base.do("create table t (object bigint primary key, grade integer not null); insert into t values (1, 5), (2, 4);")
+    words, targets = ("--table", "t", "--grade", "grade"), ("size", "page?from=0&count=2", "grade?object=1")
+    with node(base, *words) as port:
+        still = {body(port, f"/lists/grade/{it}")["version"] for it in targets * 3}
+        base.do("update t set grade = 6 where object = 2;")
+        page = body(port, "/lists/grade/page?from=0&count=2")
+    with node(base, *words) as port:
+        later = body(port, "/lists/grade/size")["version"]
+    return first_difference([("versions while nothing changes", len(still), 1), ("a page behind a change", page["rows"], [[2, 6], [1, 5]]),
+                             ("versions that rise", 0 < max(still) < page["version"] < later < 2**63, True)])
+
+
+def own_changes(base: Base) -> str | None:
+    """While the table changes over and over, replies of several clients that state one version have the same rows."""
+    base.do("create table t (object bigint primary key, grade integer not null); insert into t values (1, 1), (2, 1);")
+    ended, seen = threading.Event(), {}
+
+    def change() -> None:
+        while not ended.is_set():
+            base.do("update t set grade = grade + 1;\n" * 3)
+            time.sleep(0.02)
+
+    def read(port: int) -> str | None:
+        for _ in range(60):
+            found = body(port, "/lists/grade/page?from=0&count=2")
+            if not isinstance(found, dict) or found["rows"][0][1] != found["rows"][1][1] or seen.setdefault(found["version"], found["rows"]) != found["rows"]:
+                return f"read {found}"
+        return None
+
+    with node(base, "--table", "t", "--grade", "grade") as port, concurrent.futures.ThreadPoolExecutor(5) as pool:
+        changing = pool.submit(change)
+        try:
+            wrong = next(filter(None, pool.map(read, [port] * 4)), None)
+        finally:
+            ended.set()
+        changing.result(SECONDS)
+    return wrong or (None if len({str(it) for it in seen.values()}) > 2 else f"saw {len(seen)} versions")
+
+
+class Redis:
+    """A server of Redis, on a port of its own."""
+
+    name = "redis"
+
+    def __init__(self, port: int, python: str) -> None:
+        self._cli = (path_of("redis-cli"), "-p", str(port))
+        self.words = (python, str(BRIDGES / "redis.py"), f"redis://127.0.0.1:{port}/0")
+
+    def do(self, commands: str) -> None:
+        """Sends commands, a line each."""
+        done = subprocess.run(self._cli, input=commands, capture_output=True, text=True, timeout=SECONDS, check=True)
+        if "ERR" in done.stdout or "WRONGTYPE" in done.stdout:
+            raise AssertionError(done.stdout[-300:])
+
+    def fill(self, key: str, rows: Iterable[tuple[int, int]]) -> None:
+        """Adds rows to a sorted set."""
+        parts = [f"{grade} {item}" for item, grade in rows]
+        self.do("".join(f"ZADD {key} {' '.join(parts[at:at + 500])}\n" for at in range(0, len(parts), 500)))
+
+
+def has_redis(python: str) -> bool:
+    """Whether a Python is there and has the client library."""
+    return os.path.exists(python) and peer([python, "-c", "import sys, redis; sys.exit(sys.version_info < (3, 9))"]).returncode == 0
+
+
+@contextlib.contextmanager
+def redis() -> Iterator[Redis]:
+    """A server with nothing in it, which is ended afterwards."""
+    python = next(filter(has_redis, dict.fromkeys((sys.executable, "/usr/bin/python3"))), None)
+    if python is None:
+        raise Skipped("there is no client library for Redis")
+    words = [path_of("redis-server"), "--bind", "127.0.0.1", "--save", "", "--appendonly", "no", "--port"]
+    with free_port() as port, tempfile.TemporaryDirectory() as place:
+        with subprocess.Popen([*words, str(port), "--dir", place], stdout=subprocess.DEVNULL, stderr=subprocess.DEVNULL) as process:
+            try:
+                late = time.monotonic() + SECONDS
+                while not is_up(port):
+                    if process.poll() is not None or time.monotonic() > late:
+                        raise AssertionError(f"redis-server doesn't listen, but ended with {process.poll()}")
+                    time.sleep(0.02)
+                yield Redis(port, python)
+            finally:
+                process.kill()
+
+
+def is_up(port: int) -> bool:
+    """Whether something listens at a port."""
+    with contextlib.suppress(ConnectionRefusedError), socket.create_connection(("127.0.0.1", port), SECONDS):
+        return True
+    return False
+
+
+def redis_requests(base: Redis) -> str | None:
+    """Each route, to the byte. Of equal grades the member that is last by its bytes stands first."""
+    base.fill("of:A", ((item, grade) for item, grade, _ in ROWS))
+    base.fill("of:B", ((item, grade) for item, _, grade in ROWS))
+    with node(base, "--grade", "A=of:A", "--grade", "B=of:B") as port:
+        swapped = {"/lists/A/page?from=0&count=10000": '{"rows":[[1,900],[4294967295,800],[2,800],[3,100],[0,0]]}',
+                   "/lists/A/page?from=1&count=2": '{"rows":[[4294967295,800],[2,800]]}', "/lists/A/page?from=2&count=1": '{"rows":[[2,800]]}',
+                   "/lists/B/page?count=3&from=0": '{"rows":[[0,1000000],[4294967295,700],[2,700]]}'}
+        rows = [(target, got(port, target), answer(text)) for target, text in {**ANSWERS, **swapped}.items()]
+        rows += [(target, got(port, target), refusal(404, "Not Found")) for target in NO_ROUTES]
+        rows += [(target[:60], got(port, target), refusal(400, "Bad Request")) for target in BAD_TARGETS]
+        rows += [(str(head[:60]), said(port, head), refusal(*reply)) for head, reply in HEADS.items()]
+        base.do("ZADD of:A 4.5 9\n")
+        rows += [(it, got(port, it), refusal(500, "Internal Server Error")) for it in ("/lists/A/page?from=0&count=9", "/lists/A/grade?object=9")]
+        rows.append(("what is whole", got(port, "/lists/A/grade?object=1"), answer('{"grade":900}')))
+    return first_difference(rows)
+
+
+def redis_starts(base: Redis) -> str | None:
+    """What is no list is refused at the start, with its row and the way out."""
+    base.do("ZADD part 5 1 4.5 2\nZADD high 1000001 7\nZADD word 5 adler\nZADD zeros 5 007\nZADD good 5 1\nSET text x\n")
+    cases = [("part", "row 1 of part, the member '2' with the score 4.5: each score has to be a whole number"), ("high", "row 0 of high, the member '7'"),
+             ("word", "row 0 of word, the member 'adler' with the score 5.0: each member has to be a whole number"), ("zeros", "row 0 of zeros"),
+             ("nothing", "there is no sorted set 'nothing'"), ("text", "WRONGTYPE")]
+    for key, wanted in cases:
+        done = subprocess.run([*base.words, "--grade", key, "--at", "0"], capture_output=True, text=True, timeout=SECONDS, check=False)
+        if done.returncode != 1 or done.stdout or wanted not in done.stderr or not done.stderr.startswith(f"{key}: ") or "Traceback" in done.stderr:
+            return f"{key}: ended with {done.returncode} and wrote {done.stdout!r}, {done.stderr[-400:]!r}"
+    nowhere = [*base.words[:2], "redis://127.0.0.1:1/0", "--grade", "good", "--at", "0"]
+    done = subprocess.run(nowhere, capture_output=True, text=True, timeout=SECONDS, check=False)
+    return first_difference([("without a server", (done.returncode, done.stderr[:6], "Traceback" in done.stderr), (1, "good: ", False))])
+
+
+def redis_versions(base: Redis) -> str | None:
+    """A version that is named, and one that a key has, which is read with the rows."""
+    base.do("ZADD A 5 1\nSET version 7\n")
+    with node(base, "--grade", "A", "--version", "3") as stated, node(base, "--grade", "A", "--version-key", "version") as told:
+        rows = [("stated", got(stated, "/lists/A/size"), answer('{"count":1,"version":3}')),
+                ("told", got(told, "/lists/A/page?from=0&count=1"), answer('{"rows":[[1,5]],"version":7}'))]
+        base.do("MULTI\nZADD A 6 1\nINCR version\nEXEC\n")
+        rows.append(("changed", got(told, "/lists/A/grade?object=1"), answer('{"grade":6,"version":8}')))
+        base.do("DEL version\n")
+        rows.append(("without the key", got(told, "/lists/A/size"), refusal(500, "Internal Server Error")))
+    return first_difference(rows)
+
+
+def redis_great_list(base: Redis) -> str | None:
+    """100,000 members: a page at the end has its rows and comes as fast as one at the front; eight clients at once get their own."""
+    count = 100_000
+    base.fill("A", ((it, it * 7919 % 1_000_001) for it in range(count)))
+    wanted = sorted(([it, it * 7919 % 1_000_001] for it in range(count)), key=lambda row: -row[1])
+    asked = "/lists/A/page?from={}&count={}".format
+    with node(base, "--grade", "A") as port, concurrent.futures.ThreadPoolExecutor(8) as pool:
+        places = [(0, 100), (511, 1000), (count - 10_000, 10_000), (count - 1, 5), (count, 1)] * 4
+        for it, found in zip(places, pool.map(lambda it: body(port, asked(*it)), places)):
+            if found != {"rows": wanted[it[0]:it[0] + it[1]]}:
+                return f"{it}: {str(found)[:300]}"
+        return None if as_quick(port, asked(count - 10, 10), asked(0, 10)) else "a page takes more than three times as long at the end as at the front"
+
+
+def redis_hotels(base: Redis, program: str) -> str | None:
+    """Over the sorted sets of the hotels `run` has the scores that it has over their files."""
+    files, names = EXAMPLES.parent / "crates" / "topk" / "data", ("price", "rating", "centre")
+    for name in names:
+        lines = (files / "hotels" / f"{name}.csv").read_text(encoding="utf-8").split()[1:]
+        base.fill(f"hotels:{name}", (tuple(map(int, line.split(","))) for line in lines))
+    query = b"top 3 by sum(price,rating,centre) using ta\n"
+
+    def scores(place: str) -> list[bytes]:
+        done = subprocess.run([program, "run", "catalog.csv"], input=query, stdout=subprocess.PIPE, cwd=place, timeout=SECONDS, check=True)
+        return [line for line in done.stdout.split(b"\n") if line.startswith((b"answer", b"count", b"refused"))]
+
+    with node(base, *[word for name in names for word in ("--grade", f"{name}=hotels:{name}")]) as port, tempfile.TemporaryDirectory() as place:
+        lines = "".join(f"{name},http://127.0.0.1:{port}/lists/{name},yes\n" for name in names)
+        pathlib.Path(place, "catalog.csv").write_text(f"name,place,random\n{lines}", encoding="utf-8")
+        return first_difference([("the answer", scores(place), scores(str(files)))])
+
+
 def tests() -> Iterator[tuple[str, Callable[[str], str | None]]]:
     """Each test with its name, for each database."""
-    def over(opened: Callable[[], Any], test: Callable[[Base], str | None]) -> str | None:
+    def over(opened: Callable[[], Any], test: Callable[..., str | None], *more: str) -> str | None:
         with opened() as base:
-            return test(base)
+            return test(base, *more)
     for opened in (sqlite, postgres):
-        for test in (requests, refusals, starts, faults, versions, changes, great_list, clients, hotels):
+        for test in (requests, refusals, starts, kinds, makes_indexes, faults, versions, changes, own_versions, own_changes, great_list, clients, hotels):
             yield f"bridge_{opened.__name__}_{test.__name__}", over_network(lambda _, opened=opened, test=test: over(opened, test))
+    for test in (redis_requests, redis_starts, redis_versions, redis_great_list):
+        yield f"bridge_{test.__name__}", over_network(lambda _, test=test: over(redis, test))
+    yield "bridge_redis_hotels", over_network(lambda program: over(redis, redis_hotels, program))

@@ -9,10 +9,10 @@ import json
 import re
 import sys
 import urllib.parse
-from collections.abc import Callable
-from typing import Any
+from collections.abc import Callable, Mapping
+from typing import Any, Protocol
 
-from ranked_table import MAX_NUMBER, MAX_VERSION, Database, Pool, RankedTable
+from ranked_table import MAX_NUMBER, MAX_VERSION, Database, Pool, RankedTable, States
 
 MAX_ROWS = 10_000
 MAX_PORT = 65_535
@@ -36,7 +36,23 @@ class Refused(Exception):
         self.status = status
 
 
-def answer(lists: dict[str, RankedTable], target: str) -> dict[str, Any]:
+class RankedList(Protocol):
+    """A list. Each call answers the body of a reply."""
+
+    def check(self) -> None:
+        """Raises an error where a row is none of a list."""
+
+    def size(self) -> dict[str, Any]:
+        """How many rows there are."""
+
+    def page(self, first: int, count: int) -> dict[str, Any]:
+        """The rows from a place on."""
+
+    def grade(self, item: int) -> dict[str, Any]:
+        """The grade of an object, or None."""
+
+
+def answer(lists: Mapping[str, RankedList], target: str) -> dict[str, Any]:
     """The body of the reply to GET of this target."""
     if AUTHORITY.match(target):
         target = AUTHORITY.sub("/", target, count=1)
@@ -112,7 +128,7 @@ class Node(http.server.ThreadingHTTPServer):
 
     request_queue_size = 128
 
-    def __init__(self, address: tuple[str, int], lists: dict[str, RankedTable]) -> None:
+    def __init__(self, address: tuple[str, int], lists: Mapping[str, RankedList]) -> None:
         super().__init__(address, Conversation)
         self.lists = lists
 
@@ -149,30 +165,49 @@ class NewList(argparse.Action):
         setattr(namespace, self.dest, [*before, values])
 
 
-def words(description: str, database: str) -> argparse.ArgumentParser:
-    """The words of a bridge. The first one says where its database is."""
+def words(description: str, database: str) -> tuple[argparse.ArgumentParser, Any]:
+    """The words that all bridges have, of which the first says where the database is; and those of versions, of which one may be there."""
     made = argparse.ArgumentParser(description=description, allow_abbrev=False)
     made.add_argument("database", help=database)
-    made.add_argument("--table", required=True, help="the table or view; a dot parts a schema from it")
-    made.add_argument("--object", default="object", metavar="COLUMN", help="the column of objects (object)")
     made.add_argument("--grade", type=named_column, action=NewList, required=True, metavar="[NAME=]COLUMN",
                       help="a column of grades, which is the list NAME; once for each list")
     made.add_argument("--at", type=number_up_to(MAX_PORT), required=True, metavar="PORT", help="the port to listen on; 0 is a free one")
     made.add_argument("--host", default="127.0.0.1", metavar="ADDRESS", help="the address to listen on (127.0.0.1)")
     version = made.add_mutually_exclusive_group()
-    version.add_argument("--version", type=number_up_to(MAX_VERSION), default=0, metavar="N", help="the version of the table (0)")
+    version.add_argument("--version", type=number_up_to(MAX_VERSION), metavar="N", help="the version of the lists; 0 states none")
+    return made, version
+
+
+def table_words(description: str, database: str) -> argparse.ArgumentParser:
+    """The words of a bridge over a table."""
+    made, version = words(description, database)
+    made.add_argument("--table", required=True, help="the table or view; a dot parts a schema from it")
+    made.add_argument("--object", default="object", metavar="COLUMN", help="the column of objects (object)")
+    made.add_argument("--make-index", action="store_true", help="make the indexes that are wanting")
     version.add_argument("--version-query", metavar="SQL", help="a statement that gives the version, asked in each reply's transaction")
     return made
 
 
-def serve(given: argparse.Namespace, database: Database) -> str | None:
-    """Serves the lists that the words name until the process is ended, or says why it can't."""
-    pool = Pool(database)
-    lists = {}
-    for name, column in given.grade:
-        lists[name] = RankedTable(database, pool, given.table, (given.object, column), given.version_query or given.version)
+def serve_table(given: argparse.Namespace, database: Database) -> str | None:
+    """Serves columns of a table until the process is ended, or says why it can't."""
+    pool, version = Pool(database), given.version_query or given.version
+    if version is None:
+        version = States() if database.state else 0
+    lists = {name: RankedTable(database, pool, given.table, (given.object, column), version) for name, column in given.grade}
+    for name, it in lists.items() if given.make_index else ():
         try:
-            lists[name].size()
+            it.make_indexes()
+        except Exception as fault:  # Whatever the database says.
+            return f"{name}: {fault}"
+    return serve(given, lists)
+
+
+def serve(given: argparse.Namespace, lists: Mapping[str, RankedList]) -> str | None:
+    """Serves lists until the process is ended, or says why it can't."""
+    for name, it in lists.items():
+        try:
+            it.check()
+            it.size()
         except Exception as fault:  # Whatever the database says.
             return f"{name}: {fault}"
     try:

@@ -9,6 +9,7 @@ from __future__ import annotations
 import contextlib
 import queue
 import threading
+import time
 from collections.abc import Callable, Iterator, Sequence
 from typing import Any, NamedTuple
 
@@ -29,6 +30,10 @@ BELOW = """select * from (select {object}, {grade} from {table} where {grade} = 
         order by {grade} desc, {object} limit {mark}) as lower_ones
     order by 2 desc, 1 limit {mark} offset {mark}"""
 GRADE = "select {grade} from {table} where {object} = {mark}"
+INDEX = "create index if not exists {index} on {table} ({grade} desc, {object})"
+KEY = "create unique index if not exists {index} on {table} ({object})"
+# What columns of whole numbers are called.
+WHOLE = {"smallint", "integer", "bigint", "numeric"}
 
 Row = tuple[Any, Any]
 
@@ -44,6 +49,16 @@ class Database(NamedTuple):
     """What stands in a statement for a number that is given with it."""
     quote: Callable[[str], str]
     """A name as statements have it, so that each character in it is part of the name."""
+    wrong: Sequence[str] = ()
+    """Statements of which each gives a row that may be wrong, or none: object, grade, and what kinds they are of."""
+    is_keyed: str = ""
+    """Gives a row where the column of objects, the second mark, is the key of the table, the first one."""
+    index: Callable[[str, str], str] | None = None
+    """The name of an index over a table and a column, as the statement that makes it has it."""
+    state: Callable[[Any], Any] | None = None
+    """What a transaction sees, by its cursor: two are equal only where nothing was changed between them. None where that isn't cheap to know."""
+    change: Callable[[], Any] | None = None
+    """Opens a connection that may make an index."""
 
 
 class Pool:
@@ -84,6 +99,22 @@ class Pool:
         return connection
 
 
+class States:
+    """Numbers for the states of a database. They rise, also from one start of the bridge to the next, as they begin with the clock's microseconds."""
+
+    def __init__(self) -> None:
+        self._lock = threading.Lock()
+        self._state: Any = None
+        self._number = time.time_ns() // 1000
+
+    def number(self, state: Any) -> int:
+        """The number of a state: that of the one before, where it is the same, and else a new one."""
+        with self._lock:
+            if state != self._state:
+                self._state, self._number = state, self._number + 1
+            return self._number
+
+
 class Known(NamedTuple):
     """The marks of one version of a list that were met so far."""
 
@@ -94,17 +125,36 @@ class Known(NamedTuple):
 class RankedTable:
     """A list of a table. Each call sees one state of the database, and answers the body of a reply."""
 
-    def __init__(self, database: Database, pool: Pool, table: str, columns: tuple[str, str], version: int | str) -> None:
-        """The columns are those of objects and of grades; the version is a number, or a statement that gives it."""
-        names = {
+    def __init__(self, database: Database, pool: Pool, table: str, columns: tuple[str, str], version: int | str | States) -> None:
+        """The columns are those of objects and of grades; the version is a number, a statement that gives it, or the number of the state."""
+        self._database, self._table, self._columns = database, table, columns
+        self._names = {
             "table": ".".join(map(database.quote, table.split("."))),
             "object": database.quote(columns[0]),
             "grade": database.quote(columns[1]),
             "mark": database.mark,
         }
-        self._size, self._top, self._below, self._grade = (it.format(**names) for it in (SIZE, TOP, BELOW, GRADE))
+        self._size, self._top, self._below, self._grade = (it.format(**self._names) for it in (SIZE, TOP, BELOW, GRADE))
         self._pool, self._version = pool, version
         self._known = Known(0)
+
+    def make_indexes(self) -> None:
+        """Makes the index of the grades, and that of the objects where they aren't the table's key."""
+        with contextlib.closing(self._database.change()) as connection:
+            cursor = connection.cursor()
+            cursor.execute(INDEX.format(index=self._database.index(self._table, self._columns[1]), **self._names), ())
+            cursor.execute(self._database.is_keyed, (self._table, self._columns[0]))
+            if cursor.fetchone() is None:
+                cursor.execute(KEY.format(index=self._database.index(self._table, self._columns[0]), **self._names), ())
+
+    def check(self) -> None:
+        """Raises ValueError with the first row whose object or grade isn't of its kind. Reads the table once."""
+        with self._pool.transaction() as cursor:
+            for statement in self._database.wrong:
+                cursor.execute(statement.format(**self._names), ())
+                found = cursor.fetchone()
+                if found is not None:
+                    checked(found, self._table, self._columns)
 
     def size(self) -> dict[str, Any]:
         """Counts the rows, by an index. The marks are forgotten: a table whose version isn't stated may be another one by now."""
@@ -138,7 +188,9 @@ class RankedTable:
         """A cursor on one state of the database, and the version of this state."""
         with self._pool.transaction() as cursor:
             version = self._version
-            if isinstance(version, str):
+            if isinstance(version, States):
+                version = version.number(self._database.state(cursor))
+            elif isinstance(version, str):
                 cursor.execute(version)
                 found = cursor.fetchone()
                 version = whole(found and found[0], MAX_VERSION)
@@ -176,6 +228,25 @@ def whole(value: Any, limit: int = MAX_NUMBER) -> int:
     if number != value or not 0 <= number <= limit:
         raise ValueError(f"{value!r} is no whole number from 0 to {limit}")
     return number
+
+
+def checked(row: Sequence[Any], table: str, columns: tuple[str, str]) -> None:
+    """Raises ValueError where a row's object or grade is none, with the way out."""
+    item, grade, *kinds = row
+    cures = (
+        "give the rows whole numbers, in a column that --object names",
+        f"make a column of whole grades, as by: alter table {table} add column {columns[1]}_grade integer "
+        f"generated always as (round({columns[1]} * 1000)) stored; in SQLite virtual in place of stored",
+    )
+    for what, value, kind, limit, column, cure in zip(("object", "grade"), (item, grade), kinds, (MAX_NUMBER, MAX_GRADE), columns, cures):
+        try:
+            if kind in WHOLE:
+                whole(value, limit)
+                continue
+        except ValueError:
+            pass
+        raise ValueError(f"the row of the object {item!r} has {value!r} in the column {column}, which is {kind}: "
+                         f"each {what} is a whole number from 0 to {limit}; {cure}")
 
 
 def stated(body: dict[str, Any], version: int) -> dict[str, Any]:
