@@ -130,7 +130,8 @@ class Sqlite:
 
     def indexes(self) -> list[str]:
         with contextlib.closing(sqlite3.connect(self.path)) as connection:
-            return [name for name, in connection.execute("select name from sqlite_master where type = 'index' and sql is not null order by name")]
+            asked = "select name from sqlite_master where type = 'index' and sql is not null order by name"
+            return [name for name, in connection.execute(asked)]
 
 
 class Cluster:
@@ -198,7 +199,8 @@ class Postgres:
 
     def indexes(self) -> list[str]:
         asked = "select indexname from pg_indexes where schemaname = 'public' and indexname not like '%pkey' order by indexname collate \"C\""
-        return subprocess.run([*self._reached, "-At", "-c", asked, self._base], capture_output=True, text=True, timeout=SECONDS, check=True).stdout.split()
+        words = [*self._reached, "-At", "-c", asked, self._base]
+        return subprocess.run(words, capture_output=True, text=True, timeout=SECONDS, check=True).stdout.split()
 
 
 def programs(name: str) -> Iterator[pathlib.Path]:
@@ -469,7 +471,8 @@ def clients(base: Base) -> str | None:
                 return wrong
         return None
 
-    with node(base, "--table", "t", "--grade", "grade", "--version", "0") as port, contextlib.ExitStack() as links, concurrent.futures.ThreadPoolExecutor(8) as pool:
+    words = ("--table", "t", "--grade", "grade", "--version", "0")
+    with node(base, *words) as port, contextlib.ExitStack() as links, concurrent.futures.ThreadPoolExecutor(8) as pool:
         for part in (b"", b"GET /lists/grade/si"):
             links.enter_context(socket.create_connection(("127.0.0.1", port), timeout=SECONDS)).sendall(part)
         with socket.create_connection(("127.0.0.1", port), timeout=SECONDS) as left:
@@ -552,7 +555,7 @@ def own_changes(base: Base) -> str | None:
     def read(port: int) -> str | None:
         for _ in range(60):
             found = body(port, "/lists/grade/page?from=0&count=2")
-            if not isinstance(found, dict) or found["rows"][0][1] != found["rows"][1][1] or seen.setdefault(found["version"], found["rows"]) != found["rows"]:
+            if not isinstance(found, dict) or seen.setdefault(found["version"], found["rows"]) != found["rows"]:
                 return f"read {found}"
         return None
 
@@ -640,7 +643,8 @@ def redis_requests(base: Redis) -> str | None:
 def redis_starts(base: Redis) -> str | None:
     """What is no list is refused at the start, with its row and the way out."""
     base.do("ZADD part 5 1 4.5 2\nZADD high 1000001 7\nZADD word 5 adler\nZADD zeros 5 007\nZADD good 5 1\nSET text x\n")
-    cases = [("part", "row 1 of part, the member '2' with the score 4.5: each score has to be a whole number"), ("high", "row 0 of high, the member '7'"),
+    cases = [("part", "row 1 of part, the member '2' with the score 4.5: each score has to be a whole number"),
+             ("high", "row 0 of high, the member '7' with the score 1000001.0: each score"),
              ("word", "row 0 of word, the member 'adler' with the score 5.0: each member has to be a whole number"), ("zeros", "row 0 of zeros"),
              ("nothing", "there is no sorted set 'nothing'"), ("text", "WRONGTYPE")]
     for key, wanted in cases:
@@ -676,7 +680,8 @@ def redis_great_list(base: Redis) -> str | None:
         for it, found in zip(places, pool.map(lambda it: body(port, asked(*it)), places)):
             if found != {"rows": wanted[it[0]:it[0] + it[1]]}:
                 return f"{it}: {str(found)[:300]}"
-        return None if as_quick(port, asked(count - 10, 10), asked(0, 10)) else "a page takes more than three times as long at the end as at the front"
+        quick = as_quick(port, asked(count - 10, 10), asked(0, 10))
+    return None if quick else "a page takes more than three times as long at the end as at the front"
 
 
 def redis_hotels(base: Redis, program: str) -> str | None:

@@ -19,7 +19,7 @@ WRONG = ("select {object}, {grade}, pg_typeof({object})::text, pg_typeof({grade}
             where {object} is null or {grade} is null or {object} <> trunc({object}) or {grade} <> trunc({grade})
             or {object} < 0 or {object} > 4294967295 or {grade} < 0 or {grade} > 1000000 limit 1""")
 IS_KEYED = """select 1 from pg_index join pg_attribute on attrelid = indrelid and attnum = indkey[0]
-    where indrelid = %s::regclass and attname = %s and indisunique and indnkeyatts = 1 and indpred is null"""
+    where indrelid = %s::regclass and attname = %s and indisunique and indnatts = 1 and indpred is null"""
 
 
 def quoted(name: str) -> str:
@@ -30,6 +30,13 @@ def quoted(name: str) -> str:
 def index(table: str, column: str) -> str:
     """The name of an index, which stands in its table's schema. PostgreSQL cuts off what is behind 63 bytes."""
     return quoted(f"{table.rpartition('.')[2]}_by_{column}")
+
+
+def is_keyed(cursor: psycopg2.extensions.cursor, table: str, column: str) -> bool:
+    """Whether there is an index in which a column alone is unique."""
+    name = ".".join(map(quoted, table.split("."))).replace("%%", "%")
+    cursor.execute(IS_KEYED, (name, column))
+    return cursor.fetchone() is not None
 
 
 def snapshot(cursor: psycopg2.extensions.cursor) -> str:
@@ -48,7 +55,7 @@ def main() -> str | None:
         connection.autocommit = True
         return connection
 
-    return bridge.serve_table(given, Database(connect, BEGIN, "%s", quoted, WRONG, IS_KEYED, index, snapshot, connect))
+    return bridge.serve_table(given, Database(connect, BEGIN, "%s", quoted, WRONG, is_keyed, index, snapshot, connect))
 
 
 if __name__ == "__main__":

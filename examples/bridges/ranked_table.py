@@ -51,12 +51,12 @@ class Database(NamedTuple):
     """A name as statements have it, so that each character in it is part of the name."""
     wrong: Sequence[str] = ()
     """Statements of which each gives a row that may be wrong, or none: object, grade, and what kinds they are of."""
-    is_keyed: str = ""
-    """Gives a row where the column of objects, the second mark, is the key of the table, the first one."""
+    is_keyed: Callable[[Any, str, str], bool] | None = None
+    """Whether a column of a table is its key, by a cursor."""
     index: Callable[[str, str], str] | None = None
     """The name of an index over a table and a column, as the statement that makes it has it."""
     state: Callable[[Any], Any] | None = None
-    """What a transaction sees, by its cursor: two are equal only where nothing was changed between them. None where that isn't cheap to know."""
+    """What a transaction sees, by its cursor: two are equal only where nothing was changed between them. None where nothing cheap tells."""
     change: Callable[[], Any] | None = None
     """Opens a connection that may make an index."""
 
@@ -100,7 +100,7 @@ class Pool:
 
 
 class States:
-    """Numbers for the states of a database. They rise, also from one start of the bridge to the next, as they begin with the clock's microseconds."""
+    """Numbers for the states of a database. They rise, and begin with the clock's microseconds, so that they do from one start to the next."""
 
     def __init__(self) -> None:
         self._lock = threading.Lock()
@@ -126,7 +126,7 @@ class RankedTable:
     """A list of a table. Each call sees one state of the database, and answers the body of a reply."""
 
     def __init__(self, database: Database, pool: Pool, table: str, columns: tuple[str, str], version: int | str | States) -> None:
-        """The columns are those of objects and of grades; the version is a number, a statement that gives it, or the number of the state."""
+        """The columns are those of objects and of grades; the version is a number, a statement that gives it, or that of the state."""
         self._database, self._table, self._columns = database, table, columns
         self._names = {
             "table": ".".join(map(database.quote, table.split("."))),
@@ -143,8 +143,7 @@ class RankedTable:
         with contextlib.closing(self._database.change()) as connection:
             cursor = connection.cursor()
             cursor.execute(INDEX.format(index=self._database.index(self._table, self._columns[1]), **self._names), ())
-            cursor.execute(self._database.is_keyed, (self._table, self._columns[0]))
-            if cursor.fetchone() is None:
+            if not self._database.is_keyed(cursor, self._table, self._columns[0]):
                 cursor.execute(KEY.format(index=self._database.index(self._table, self._columns[0]), **self._names), ())
 
     def check(self) -> None:

@@ -5,6 +5,7 @@ Each such column needs an index on (grade desc, object), and the objects one of 
 """
 from __future__ import annotations
 
+import contextlib
 import pathlib
 import sqlite3
 import sys
@@ -18,8 +19,6 @@ from ranked_table import Database
 WRONG = """select {object}, {grade}, typeof({object}), typeof({grade}) from {table}
     where typeof({object}) <> 'integer' or typeof({grade}) <> 'integer'
     or {object} not between 0 and 4294967295 or {grade} not between 0 and 1000000 limit 1"""
-IS_KEYED = """select 1 from (select replace(?, 'main.', '') as name) as tables, pragma_table_info(tables.name) as columns
-    where columns.name = ? and columns.pk = 1 and (select max(pk) from pragma_table_info(tables.name)) = 1"""
 
 
 def quoted(name: str) -> str:
@@ -33,22 +32,30 @@ def index(table: str, column: str) -> str:
     return (quoted(schema) + dot if dot else "") + quoted(f"{name}_by_{column}")
 
 
+def is_keyed(cursor: sqlite3.Cursor, table: str, column: str) -> bool:
+    """Whether a column alone is the key of a table."""
+    found = cursor.execute("select name from pragma_table_info(?) where pk > 0", (table.rpartition(".")[2],)).fetchall()
+    return found == [(column,)]
+
+
 class Watch:
-    """A connection of its own that sees whether the file was changed."""
+    """A connection of its own that sees whether the file was changed. It waits for no writer, since one may wait for the transaction itself."""
 
     def __init__(self, place: str) -> None:
         self._lock = threading.Lock()
-        self._connection = sqlite3.connect(place, uri=True, isolation_level=None, check_same_thread=False)
+        self._connection = sqlite3.connect(place, uri=True, isolation_level=None, check_same_thread=False, timeout=0)
 
     def __call__(self, cursor: sqlite3.Cursor) -> Any:
-        """What a transaction sees: the count of changes, where it is the same before the transaction's first read and behind it; else what equals nothing."""
-        before = self._count()
+        """What a transaction sees: how often the file was changed, where that is the same before its first read and behind it."""
+        before = self._changes()
         cursor.execute("select 1 from sqlite_master limit 1").fetchone()
-        return before if self._count() == before else object()
+        return before if self._changes() == before else object()
 
-    def _count(self) -> int:
-        with self._lock:
+    def _changes(self) -> Any:
+        """The count of changes; while a writer is at work what equals nothing."""
+        with self._lock, contextlib.suppress(sqlite3.OperationalError):
             return self._connection.execute("pragma data_version").fetchone()[0]
+        return object()
 
 
 def main() -> str | None:
@@ -64,7 +71,7 @@ def main() -> str | None:
     except sqlite3.Error as fault:
         return f"{given.database}: {fault}"
     return bridge.serve_table(
-        given, Database(connect, "begin", "?", quoted, (WRONG,), IS_KEYED, index, watch, lambda: connect("rw")))
+        given, Database(connect, "begin", "?", quoted, (WRONG,), is_keyed, index, watch, lambda: connect("rw")))
 
 
 if __name__ == "__main__":
