@@ -569,6 +569,43 @@ def own_changes(base: Base) -> str | None:
     return wrong or (None if len({str(it) for it in seen.values()}) > 2 else f"saw {len(seen)} versions")
 
 
+# Run where sqlite.py stands: a change just before the first read of a transaction that was begun already.
+WATCHED = """
+import sqlite3, sys
+import sqlite
+place = sys.argv[1]
+watch, other = sqlite.Watch(f"file:{place}?mode=ro"), sqlite3.connect(place, isolation_level=None)
+other.executescript("pragma journal_mode = wal; create table t (n); insert into t values (1);")
+
+
+class Late:
+    def execute(self, statement):
+        other.execute("update t set n = n + 1")
+        return reader.execute(statement)
+
+
+def seen(through):
+    reader.execute("begin")
+    state = watch(through)
+    reader.execute("rollback")
+    return state
+
+
+reader = sqlite3.connect(place, isolation_level=None)
+before, same, late = seen(reader.cursor()), seen(reader.cursor()), seen(Late())
+print(before == same, late in (before, seen(reader.cursor())), seen(reader.cursor()) == before)
+"""
+
+
+def sqlite_watch(_: str) -> str | None:
+    """A change between the begin of a transaction and its first read leaves no state that another transaction has too."""
+    needs(no_room(200))
+    with tempfile.TemporaryDirectory() as place:
+        words = [sys.executable, "-c", WATCHED, os.path.join(place, "t.db")]
+        done = subprocess.run(words, cwd=BRIDGES, capture_output=True, text=True, timeout=SECONDS, check=False)
+    return first_difference([("what is seen", done.stdout + done.stderr[-500:], "True False False\n")])
+
+
 class Redis:
     """A server of Redis, on a port of its own."""
 
@@ -712,4 +749,5 @@ def tests() -> Iterator[tuple[str, Callable[[str], str | None]]]:
             yield f"bridge_{opened.__name__}_{test.__name__}", over_network(lambda _, opened=opened, test=test: over(opened, test))
     for test in (redis_requests, redis_starts, redis_versions, redis_great_list):
         yield f"bridge_{test.__name__}", over_network(lambda _, test=test: over(redis, test))
+    yield "bridge_sqlite_watch", sqlite_watch
     yield "bridge_redis_hotels", over_network(lambda program: over(redis, redis_hotels, program))
