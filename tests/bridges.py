@@ -574,8 +574,9 @@ WATCHED = """
 import sqlite3, sys
 import sqlite
 place = sys.argv[1]
-watch, other = sqlite.Watch(f"file:{place}?mode=ro"), sqlite3.connect(place, isolation_level=None)
+other = sqlite3.connect(place, isolation_level=None)
 other.executescript("pragma journal_mode = wal; create table t (n); insert into t values (1);")
+watch = sqlite.Watch(f"file:{place}?mode=ro")
 
 
 class Late:
