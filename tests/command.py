@@ -12,6 +12,7 @@ import pathlib
 import pty
 import random
 import re
+import shutil
 import socket
 import subprocess
 import sys
@@ -60,7 +61,8 @@ def command(program: str, *words: object, place: object = None, given: str = "")
 
 def first_wrong(rows: Iterable[tuple[str, Any, Any]]) -> str | None:
     """The first of some labelled values that isn't what is wanted, or None."""
-    return next((f"{label}: {found!r} in place of {wanted!r}" for label, found, wanted in rows if found != wanted), None)
+    wrong = (f"{label}: {found!r} in place of {wanted!r}" for label, found, wanted in rows if found != wanted)
+    return next(wrong, None)
 
 
 @contextlib.contextmanager
@@ -76,7 +78,8 @@ def folder(files: Mapping[str, str] = {"hotels.csv": HOTELS}) -> Iterator[pathli
 
 def command_rank(program: str) -> str | None:
     """The best rows as a table, as CSV and as JSON; scores are worked out by hand."""
-    words = ("rank", "hotels.csv", "--key", "name", "--by", "price:low:0..200", "--by", "rating:high:0..5*2", "--top", "2")
+    by = ("--by", "price:low:0..200", "--by", "rating:high:0..5*2")
+    words = ("rank", "hotels.csv", "--key", "name", *by, "--top", "2")
     with folder() as place:
         shown = command(program, *words, "--check", place=place)
         rows = list(csv.reader(io.StringIO(command(program, *words, "--csv", place=place)[1])))
@@ -108,7 +111,7 @@ def command_settings(program: str) -> str | None:
     rows = [
         (("--by", "price:low:rank", "--by", "rating:missing=1000000"), "Krone Post", "sum"),
         (("--by", "price:low", "--by", "rating", "--how", "min"), "Krone", "min"),
-        (("--by", "price:low:name=cheap", "--by", "rating", "--score", "min(cheap,wsum(2*rating))"), "Krone", "min(cheap"),
+        (("--by", "price:low:name=x", "--by", "rating", "--score", "min(x,wsum(2*rating))"), "Krone", "min(x"),
         (("--by", "price:low:reciprocal-rank=60", "--by", "rating:reciprocal-rank"), "Linde Krone", "sum"),
         (("--by", "price:low:no-grades", "--by", "rating", "--top", "1"), "Krone", "using nra"),
         (("--by", "price", "--using", "theta 3/2", "--top", "1"), "Adler, old", "3/2"),
@@ -137,7 +140,7 @@ def command_wrong_words(program: str) -> str | None:
         (1, "There is no column 'cty': did you mean 'city'?", (*table, "--by", "price", "--where", "cty=Bern")),
         (1, "has 'Bern' in the column city, which is no number", (*table, "--by", "city")),
         (1, "has no rating, and the criterion refuses that", (*table, "--by", "rating:missing=refuse")),
-        (1, "Row 1 ('120') has 'Adler, old' in the column name", ("rank", "hotels.csv", "--key", "price", "--by", "name")),
+        (1, "Row 1 ('120') has 'Adler, old'", ("rank", "hotels.csv", "--key", "price", "--by", "name")),
         (1, "two criteria are called 'price'", (*table, "--by", "price", "--by", "price:low")),
         (1, "< compares numbers", (*table, "--by", "price", "--where", "city<Bern")),
         (1, "no row to rank", (*table, "--by", "price", "--where", "city=Rome")),
@@ -176,7 +179,7 @@ def command_help(program: str) -> str | None:
 def made_table(count: int) -> tuple[str, list[int]]:
     """A table of shops with text keys and four columns, and the best keys' scores by plain Python."""
     made = random.Random(21)
-    rows = [(made.randrange(20, 900), made.randrange(51), made.randrange(10_000), made.randrange(6)) for _ in range(count)]
+    rows = [tuple(map(made.randrange, (900, 51, 10_000, 6))) for _ in range(count)]
     text = "".join(f"shop-{number:06},{a},{b / 10},{c},{d}\n" for number, (a, b, c, d) in enumerate(rows))
     columns = list(zip(*rows))
     grades = []
@@ -218,7 +221,8 @@ def served(port: int, query: str) -> str:
 def ran(program: str, place: pathlib.Path, query: str) -> str:
     """What `run` writes over a catalog."""
     words = [program, "run", "catalog.csv"]
-    done = subprocess.run(words, input=f"{query}\n".encode(), stdout=subprocess.PIPE, cwd=place, timeout=SECONDS, check=True)
+    given = f"{query}\n".encode()
+    done = subprocess.run(words, input=given, stdout=subprocess.PIPE, cwd=place, timeout=SECONDS, check=True)
     return done.stdout.decode()
 
 
@@ -235,9 +239,8 @@ def command_lists(program: str) -> str | None:
         files = ran(program, out, query)
         names = [row[0] for row in csv.reader((out / "catalog.csv").read_text().splitlines()[1:])]
         ports = {name: listening([program, "node", "catalog.csv", name], out, held) for name in names}
-        (place / "catalog.csv").write_text(
-            "name,place,random\n" + "".join(f"{it},http://127.0.0.1:{port}/lists/{it},yes\n" for it, port in ports.items())
-        )
+        lines = [f"{it},http://127.0.0.1:{port}/lists/{it},yes\n" for it, port in ports.items()]
+        (place / "catalog.csv").write_text("name,place,random\n" + "".join(lines))
         over_nodes = ran(program, place, query)
         over_server = served(listening([program, "serve", "catalog.csv"], out, held), query)
         ranked = json.loads(command(program, "rank", "shops.csv", *BY, "--json", "--top", "10", place=place)[1])
@@ -259,7 +262,8 @@ def command_evidence(program: str) -> str | None:
     with folder() as place:
         words = ("--by", "price:low", "--by", "rating", "--top", "2", "--certificate", "hotels.txt", "--keys", "k.csv")
         said = command(program, "rank", "hotels.csv", "--key", "name", *words, place=place)
-        judged = subprocess.run([program, "judge"], input=(place / "hotels.txt").read_bytes(), stdout=subprocess.PIPE, timeout=SECONDS)
+        given = (place / "hotels.txt").read_bytes()
+        judged = subprocess.run([program, "judge"], input=given, stdout=subprocess.PIPE, timeout=SECONDS)
         explained = command(program, "explain", "hotels.txt", "--keys", "k.csv", place=place)
     lines = explained[1].splitlines()
     return first_wrong([
@@ -276,13 +280,15 @@ def command_evidence(program: str) -> str | None:
 
 def stated_names() -> list[tuple[str, list[str]]]:
     """The words of each refusal, verdict and status that the sources and the pages state, with their fields."""
-    body = re.search(r"pub enum Refusal \{(.*?)\n\}", (REPOSITORY / "crates/cert_text/src/refusal.rt").read_text(), re.S)
+    crates = REPOSITORY / "crates"
+    body = re.search(r"pub enum Refusal \{(.*?)\n\}", (crates / "cert_text/src/refusal.rt").read_text(), re.S)
     assert body is not None
-    found = [(name, re.findall(r"(\w+): u", fields)) for name, fields in re.findall(r"^ {4}([A-Z]\w*) \{([^}]*)\}", body[1], re.M)]
+    variants = re.findall(r"^ {4}([A-Z]\w*) \{([^}]*)\}", body[1], re.M)
+    found = [(name, re.findall(r"(\w+): u", fields)) for name, fields in variants]
     page = (REPOSITORY / "docs/CERTIFICATE.md").read_text(encoding="utf-8")
     judging = page[page.index("## What `judge` writes"): page.index("## The other algorithms")]
     found += [(name, []) for name in re.findall(r"^\| `([A-Z]\w+)", judging, re.M)]
-    statuses = re.findall(r"^ {4}[A-Z]\w+ = ([0-9]+),", (REPOSITORY / "crates/call_ends/src/status.rt").read_text(), re.M)
+    statuses = re.findall(r"^ {4}[A-Z]\w+ = ([0-9]+),", (crates / "call_ends/src/status.rt").read_text(), re.M)
     found += [(f"status {it}", []) for it in statuses]
     return found
 
@@ -309,13 +315,14 @@ def command_sentences(program: str) -> str | None:
     more = [key for key in entries() if key not in known and entries()[key].kind not in ("command", "inconsistency")]
     text = VIEW.read_text(encoding="utf-8")
     of_page = json.loads(text[text.index("{"): text.rindex("}") + 1])
-    return first_wrong([("entries that nothing states", more, []), ("the entries of the page", set(of_page), set(entries()))])
+    return first_wrong([("entries that nothing states", more, []), ("those of the page", set(of_page), set(entries()))])
 
 
 def command_refusals(program: str) -> str | None:
     """Each refusal that the program is known to write is explained by a sentence of its own, as is a status."""
     outputs = sorted((REPOSITORY / "tests" / "cases").glob("*/output"))
-    lines = {line for it in outputs for line in it.read_text(errors="replace").splitlines() if line.startswith("refused ")}
+    texts = [it.read_text(errors="replace") for it in outputs]
+    lines = {line for it in texts for line in it.splitlines() if line.startswith("refused ")}
     if len(lines) < 10:
         return f"the cases have {len(lines)} refusals"
     said = command(program, "explain", given="\n".join(sorted(lines)))
@@ -327,12 +334,12 @@ def command_refusals(program: str) -> str | None:
     return first_wrong([
         ("how many", (said[0], len(parts)), (0, len(lines))),
         ("without a sentence", [it for it in parts if "for the reason that the line names" in it], []),
-        ("beaten", (beaten[0], "object 1 of the answer has 900, and object 0 outside it has 1600" in beaten[1]), (0, True)),
+        ("beaten", "object 1 of the answer has 900, and object 0 outside it has 1600" in beaten[1], True),
         ("with a name", named[1].startswith("Line 2: The list A doesn't have object 9 (nine), whose grade"), True),
         ("a status", command(program, "explain", "--status", "3")[1].startswith("Status 3: The file named"), True),
         ("nothing", command(program, "explain")[0], 1),
         ("another text", command(program, "explain", given="hello\n")[0], 1),
-        ("a certificate that is cut", command(program, "explain", given="certificate 1\nquery top 1 by A using ta\n")[0], 1),
+        ("a certificate that is cut", command(program, "explain", given="certificate 1\ncount 2\n")[0], 1),
     ])  # fmt: skip
 
 
@@ -346,7 +353,7 @@ def command_check(program: str) -> str | None:
         "b.csv": "object,grade\n1,1000001\n2,5\n2,4\n",
         "c.csv": "1,9\r\n2,x\r\n3,7\r\n4294967296,6\r\n",
     }
-    catalog = "name,place,random\na,a.csv,yes\nb,b.csv,yes\nc,c.csv,no\nd,d.csv,yes\nfar,http://127.0.0.1:1/lists/far,yes\n"
+    catalog = "name,place,random\na,a.csv,yes\nb,b.csv,yes\nc,c.csv,no\nd,d.csv,yes\ne,http://127.0.0.1:1/lists/e,no\n"
     wanted = [
         "a.csv, line 3: the object 2 has the grade 950, which is above the 900 of the row over it",
         "b.csv, line 2: the object 1 has the grade 1000001, which is above 1000000",
@@ -363,7 +370,8 @@ def command_check(program: str) -> str | None:
     with folder({"catalog.csv": "name,place,random\na,a.csv,maybe\n"}) as place:
         bad = command(program, "check", place, place=place)
     with folder({"catalog.csv": "name,place,random\na,a.csv,yes\n", "a.csv": "x\n" * 30}) as place:
-        many, whole = (command(program, "check", "catalog.csv", *it, place=place)[1].splitlines() for it in ((), ("--all",)))
+        words = ("check", "catalog.csv")
+        many, whole = (command(program, *words, *it, place=place)[1].splitlines() for it in ((), ("--all",)))
     return first_wrong([
         ("the faults", said[1].splitlines(), wanted),
         ("the status", said[0], 1),
@@ -391,13 +399,14 @@ def command_progress(program: str) -> str | None:
                     seen += part
             status = process.wait(SECONDS)
         os.close(main)
-    return first_wrong([("the status", status, 0), ("what it is at", b"\rranking by " in seen or b"\rasking" in seen, True),
-                        ("its end", seen[-1:], b"\r")])  # fmt: skip
+    is_said = b"\rranking by " in seen or b"\rasking" in seen
+    return first_wrong([("the status", status, 0), ("what it is at", is_said, True), ("its end", seen[-1:], b"\r")])
 
 
 def command_as_quick(program: str) -> str | None:
     """200,000 rows by four criteria, from CSV to ten rows on the screen, in at most three times what pandas takes."""
-    python = next((it for it in (sys.executable, "/usr/bin/python3") if peer([it, "-c", "import pandas"]).returncode == 0), None)
+    pythons = (sys.executable, "/usr/bin/python3")
+    python = next((it for it in pythons if peer([it, "-c", "import pandas"]).returncode == 0), None)
     if python is None:
         raise Skipped("there is no pandas")
     bench = [sys.executable, str(REPOSITORY / "bench" / "package.py"), "--command", "--python", python, "--rounds", "3"]
@@ -405,6 +414,25 @@ def command_as_quick(program: str) -> str | None:
     done = subprocess.run(bench, env=there, stdout=subprocess.PIPE, timeout=SECONDS, check=True).stdout.decode()
     found = re.search(r"whole process: .* ([0-9.]+) times", done)
     return None if found and float(found[1]) <= 3 else done
+
+
+def command_installed(program: str) -> str | None:
+    """`pip install` of the folder, without an index: the commands are there, with the sentences."""
+    pythons = filter(None, (sys.executable, shutil.which("python3", path=os.defpath)))
+    python = next((it for it in pythons if peer([it, "-c", "import setuptools, wheel, pip"]).returncode == 0), None)
+    if python is None:
+        raise Skipped("there is no pip with setuptools and wheel")
+    how = ["--disable-pip-version-check", "--no-index", "--no-deps", "--no-build-isolation", "--quiet"]
+    with tempfile.TemporaryDirectory() as place:
+        copy, to = pathlib.Path(place) / "python", pathlib.Path(place) / "site"
+        shutil.copytree(PYTHON, copy, ignore=shutil.ignore_patterns("*.so", "__pycache__", "build", "*.egg-info"))
+        done = peer([python, "-m", "pip", "install", *how, "--target", to, copy])
+        if done.returncode != 0:
+            return f"pip install: {done.stderr.decode()[-500:]}"
+        words = [python, "-m", "topk", "explain", "--status", "2"]
+        there = {**os.environ, "PYTHONPATH": str(to), "TOPK_PROGRAM": program}
+        said = subprocess.run(words, stdout=subprocess.PIPE, env=there, cwd=place, timeout=SECONDS, check=False).stdout
+    return first_wrong([("a sentence", said[:59], b"Status 2: The words on the command line are no command of t")])
 
 
 def command_doctests(program: str) -> str | None:
@@ -429,6 +457,7 @@ def tests() -> Iterator[tuple[str, Callable[[str], str | None]]]:
         command_check,
         command_progress,
         command_as_quick,
+        command_installed,
         command_doctests,
     ):
         yield test.__name__, test

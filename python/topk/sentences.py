@@ -59,9 +59,8 @@ def meaning(words: Sequence[str], name_of: Callable[[str], str] = str) -> Meanin
 
     >>> meaning(["KAboveCount", "3", "2"]).sentence
     'The query asks for 3 objects, and the lists have 2.'
-    >>> meaning(["Inconsistent", "5", "4"]).sentence
-    'No table agrees with the accesses up to number 5, the first such. The access is a row whose grade is above that of \
-the row over it.'
+    >>> meaning(["Inconsistent", "5", "1"]).sentence.split(". ")[1]
+    "The access is of a list that the query doesn't name."
     """
     for count in (2, 1):
         entry = entries().get(" ".join(words[:count]))

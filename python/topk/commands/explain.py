@@ -17,7 +17,9 @@ from topk.sentences import of_line, of_status
 
 __all__ = ["add_to", "explained"]
 
-EXAMPLE = """  echo 'top 5 by sum(price,rating) using ta' | topk run catalog.csv | python3 -m topk explain --keys keys.csv"""
+EXAMPLE = """  echo 'top 5 by sum(price,rating) using ta' | topk run catalog.csv | python3 -m topk explain
+
+  in a folder that `python3 -m topk lists` wrote, where keys.csv is."""
 _AGGREGATES = {"sum": "the sum of", "min": "the least of", "max": "the greatest of", "median": "the median of"}
 
 

@@ -29,8 +29,9 @@ def add_to(commands: Any) -> None:
     made = add_command(commands, "rank", rank, "print the best rows of a table by several criteria", EXAMPLE, BY)
     add_table(made)
     made.add_argument("--top", type=int, default=10, metavar="K", help="how many rows (10)")
-    made.add_argument("--how", default="sum", choices=("sum", "min", "max", "median"), help="puts grades together (sum)")
-    made.add_argument("--score", metavar="EXPRESSION", help="in place of --how and weights, as 'min(price,wsum(2*rating))'")
+    ways = ("sum", "min", "max", "median")
+    made.add_argument("--how", default="sum", choices=ways, help="puts grades together (sum)")
+    made.add_argument("--score", metavar="EXPRESSION", help="in place of these, as 'min(price,wsum(2*rating))'")
     made.add_argument("--using", metavar="ALGORITHM", help="as in a query line (chosen, and said)")
     made.add_argument("--cost", nargs=2, type=int, metavar=("ROW", "GRADE"), help="what a row and a grade cost (1 1)")
     made.add_argument("--room", type=int, metavar="N", help="how many objects may be seen at most")
@@ -115,8 +116,8 @@ def _as_lines(answer: NamedAnswer, names: dict[str, str], key: str, verdict: str
         lines.append(f"No row outside has more than {above}/{below} times the score of one inside.")
     if answer.rounding:
         lines.append(str(answer.rounding))
-        outside = {name: count for name, count in answer.rounding.outside.items() if count}
-        lines += [f"{count} values of {names[name]} are beyond the ends of the scale." for name, count in outside.items()]
+        for name, count in answer.rounding.outside.items():
+            lines += [f"{count} values of {names[name]} are beyond the ends of the scale."] if count else []
     if verdict is not None:
         lines.append("Judged: the accesses fix the answer." if verdict == "fixes" else f"Judged: {verdict}.")
     return lines
