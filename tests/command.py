@@ -409,7 +409,7 @@ def command_as_quick(program: str) -> str | None:
     python = next((it for it in pythons if peer([it, "-c", "import pandas"]).returncode == 0), None)
     if python is None:
         raise Skipped("there is no pandas")
-    bench = [sys.executable, str(REPOSITORY / "bench" / "package.py"), "--command", "--python", python, "--rounds", "3"]
+    bench = [sys.executable, str(REPOSITORY / "bench" / "package.py"), "--command", "--python", python, "--rounds", "2"]
     there = {**os.environ, "TOPK_PROGRAM": program}
     done = subprocess.run(bench, env=there, stdout=subprocess.PIPE, timeout=SECONDS, check=True).stdout.decode()
     found = re.search(r"whole process: .* ([0-9.]+) times", done)
