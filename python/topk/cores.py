@@ -59,7 +59,7 @@ def answer(lists: Mapping[str, Pairs], query: str) -> Answer:
 
     `lists` has the lists by name: all of the same objects, each object once in a list, the rows in any order. Objects
     are integers up to 4294967295, grades up to 1000000. `query` is `top K by EXPRESSION using ALGORITHM`, with the
-    algorithm `ta`, `nra`, `ca` or `fa`.
+    algorithm `ta`, `nra`, `ca`, `fa`, `theta P/Q`, `early D` or `taz`.
 
     It is the answer of `answer_bundle` to what `bundle_of` makes of them; the library gets the rows without that text.
 
