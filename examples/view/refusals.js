@@ -236,7 +236,7 @@ const REFUSALS = {
     "kind": "judge",
     "fields": ["access", "kind"],
     "sentence": "No table agrees with the accesses up to number {access}, the first such.",
-    "cure": "A line was changed or lost since topk wrote the certificate, and the text proves nothing as it stands: take it anew."
+    "cure": "A line was changed or lost since topk wrote the certificate, and the text proves nothing as it stands: get it again."
   },
   "kind 1": {
     "kind": "inconsistency",
@@ -367,7 +367,7 @@ const REFUSALS = {
   "status 7": {
     "kind": "status",
     "fields": [],
-    "sentence": "The program can't listen at the port, or can't any more. Nothing was written. Where descriptors or memory are out for a connection, it waits instead.",
+    "sentence": "The program can't listen at the port, or can't any more. Nothing was written. Short of descriptors or memory for a connection, it waits.",
     "cure": "See that no other program listens there, and that you may listen: a port below 1024 may need special rights."
   },
   "status 8": {
