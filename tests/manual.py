@@ -28,7 +28,7 @@ PARTS = {
     "query": ".SS Of a query line: refused LINE NAME FIELDS",
     "command": ".SS Of words, files and input: refused NAME FIELDS",
     "judge": ".SS Of a certificate: refused NAME FIELDS",
-    "inconsistency": ".PP\nKIND is the first of these that applies; a line of kind 1 is a \\fBBadLine\\fR here:",
+    "inconsistency": ".PP\nKIND is the first of these that applies; 1 is told as a \\fBBadLine\\fR:",
     "verdict": ".SS What judge says of a certificate else",
     "status": "",
 }
