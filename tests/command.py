@@ -288,7 +288,7 @@ def stated_names() -> list[tuple[str, list[str]]]:
     page = (REPOSITORY / "docs/CERTIFICATE.md").read_text(encoding="utf-8")
     judging = page[page.index("## What `judge` writes"): page.index("## The other algorithms")]
     found += [(name, []) for name in re.findall(r"^\| `([A-Z]\w+)", judging, re.M)]
-    statuses = re.findall(r"^ {4}[A-Z]\w+ = ([0-9]+),", (crates / "call_ends/src/status.rt").read_text(), re.M)
+    statuses = re.findall(r"^ {4}[A-Z]\w+ = ([0-9]+),", (crates / "command_line/src/status.rt").read_text(), re.M)
     found += [(f"status {it}", []) for it in statuses]
     return found
 

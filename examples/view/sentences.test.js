@@ -44,7 +44,7 @@ test("each refusal of judge, each kind and each exit status has an entry", () =>
   assert.deepEqual(keysOf("judge"), [...page.matchAll(/^\| `([A-Z]\w+)/gm)].map((found) => found[1]));
   assert.deepEqual(keysOf("inconsistency"), [...page.matchAll(/^\| ([0-9]) \|/gm)].map((found) => `kind ${found[1]}`));
   assert.deepEqual(keysOf("verdict"), ["fixes", "beaten"]);
-  const statuses = [...read("crates", "call_ends", "src", "status.rt").matchAll(/^ {4}[A-Z]\w+ = ([0-9]+),/gm)].map((found) => `status ${found[1]}`);
+  const statuses = [...read("crates", "command_line", "src", "status.rt").matchAll(/^ {4}[A-Z]\w+ = ([0-9]+),/gm)].map((found) => `status ${found[1]}`);
   assert.ok(statuses.length >= 11);
   assert.deepEqual(keysOf("status"), statuses);
 });
