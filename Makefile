@@ -1,6 +1,6 @@
 # make try      answers the hotels' query lines by the whole program, UNPROVED, in about two minutes, and leaves nothing
 # make topk     proves and builds the program, at ./topk: an hour or two the first time, and nothing where nothing changed
-# make test     all proofs and tests, the library and the program run as users run it
+# make test     all proofs and tests, the program run as users run it, and the library where `make lib` has built it
 # make run      `make topk`, and the answers to the hotels' query lines
 # make lib      the proved library, at c/out; it needs a C compiler
 # make install  the program, its manual page and completions, and the library where it is built; `make uninstall` takes them away
@@ -62,11 +62,11 @@ wheel:
 	python3 -m pip wheel --no-index --no-deps --no-build-isolation --quiet --wheel-dir c/out ./python
 	rm -rf python/build python/topk.egg-info
 
-# What `.ci/run` does: the gate, the library where a C compiler is there, and the program and the library as processes with words, streams, files,
-# hosts and peers.
+# What `.ci/run` does: the gate, and the program as a process with words, streams, files, hosts and peers. The library is tested where `make lib` has
+# built it: to build it proves the crates below it again.
 test:
-	rt ci
-	python3 tests/run.py --library
+	RT_JOBS="$${RT_JOBS:-$$(nproc)}" rt ci
+	python3 tests/run.py
 
 # The wrong bodies that the gate doesn't try: the prover has to refuse each, on a copy of the tree. More than an hour; of one crate some minutes, as
 # in `make wrong-bodies CRATES=query_run`. What was refused on this text isn't tried again, but with `CRATES=--anew`.
