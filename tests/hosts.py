@@ -206,7 +206,7 @@ def bridge(program: str) -> str | None:
     with bridges.sqlite() as base, tempfile.TemporaryDirectory() as place:
         base.do((bridges.BRIDGES / "hotels.sql").read_text(encoding="utf-8"))
         words = [word for name in names[:4] for word in ("--grade", name)]
-        with bridges.node(base, "--table", "hotels", "--object", "id", *words) as port:
+        with bridges.node(base, "--table", "hotels", "--object", "id", "--version", "0", *words) as port:
             write(place, "catalog.csv", catalog(dict.fromkeys(names, port), no_random=["quiet"]))
             for settings in ((), ("--workers", "1", "--page", "3", "--ahead", "0"),
                              ("--workers", "8", "--page", "1", "--ahead", "5")):
