@@ -22,6 +22,9 @@ from support import REPOSITORY
 MANUAL = REPOSITORY / "docs" / "topk.1"
 SENTENCES = REPOSITORY / "examples" / "view" / "refusals.js"
 
+# The same for the Python package, which has to hold it where it is installed alone.
+COPY = REPOSITORY / "python" / "topk" / "refusals.js"
+
 # The lines between which a part stands that is made, and how each part begins.
 BEGINS, ENDS = '.\\" made: {}', '.\\" until here'
 PARTS = {
@@ -124,11 +127,17 @@ def manual_is_clean(_: str) -> str | None:
     return done.stdout[:500] or None
 
 
+def manual_sentences_are_one(_: str) -> str | None:
+    """The Python package has the file of sentences as it is."""
+    return None if COPY.read_bytes() == SENTENCES.read_bytes() else f"{COPY} differs from {SENTENCES}: copy it"
+
+
 def tests() -> Iterator[tuple[str, Callable[[str], str | None]]]:
     """Each test with its name."""
-    for test in (manual_has_the_sentences, manual_examples, manual_is_clean):
+    for test in (manual_has_the_sentences, manual_sentences_are_one, manual_examples, manual_is_clean):
         yield test.__name__, test
 
 
 if __name__ == "__main__":
+    COPY.write_bytes(SENTENCES.read_bytes())
     MANUAL.write_text(renewed(MANUAL.read_text(encoding="utf-8")), encoding="utf-8")
