@@ -56,7 +56,10 @@ def main() -> None:
     print(f"{arguments.rows} rows, {len(page)} bytes")
     for name, took in least.items():
         print(f"{name}: {1000 * took / TIMES:.2f} ms")
-    print(f"ratio {least['topk'] / least['bare']:.2f}")
+    if least["bare"] > 0:
+        print(f"ratio {least['topk'] / least['bare']:.2f}")
+    else:
+        print("ratio: too few rows to tell")
 
 
 if __name__ == "__main__":
