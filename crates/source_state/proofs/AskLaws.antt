@@ -30,7 +30,7 @@ ask_is object one other held kept e f =
     ∙ ap (λ is_held. let ask : Ask = record { object = object; settling = other; is_held = is_held } in ask) f
 
 -- one more row holds its object, and no other
-grade_other : (rows : List Row) (row : Row) (object : ℕ) → (row.object ≡ object → ⊥) → grade_among (rows ++ row ∷ []) object ≡ grade_among rows object
+pub grade_other : (rows : List Row) (row : Row) (object : ℕ) → (row.object ≡ object → ⊥) → grade_among (rows ++ row ∷ []) object ≡ grade_among rows object
 grade_other rows row object apart =
     elim (option_cases (grade_among rows object)) [
       | inl none ↦ grade_among_append_none rows (row ∷ []) object none ∙ ap (λ b. cond b (Some row.grade) None) (eqb_other row.object object apart) ∙ sym none
@@ -45,13 +45,13 @@ grade_held rows row =
     ]
 
 -- a change of an ask, where it is of the object and where it isn't
-changed : (object : ℕ) (turn : Ask → Ask) (ask : Ask) → object ≡ ask.object → change object turn ask ≡ turn ask
+pub changed : (object : ℕ) (turn : Ask → Ask) (ask : Ask) → object ≡ ask.object → change object turn ask ≡ turn ask
 changed object turn ask same = ap (λ b. cond b (turn ask) ask) (subst (λ o. (object == o) ≡ true) same (eqb_same object))
 
-unchanged : (object : ℕ) (turn : Ask → Ask) (ask : Ask) → (object ≡ ask.object → ⊥) → change object turn ask ≡ ask
+pub unchanged : (object : ℕ) (turn : Ask → Ask) (ask : Ask) → (object ≡ ask.object → ⊥) → change object turn ask ≡ ask
 unchanged object turn ask apart = ap (λ b. cond b (turn ask) ask) (eqb_other object ask.object apart)
 
-equal_or_not : (m n : ℕ) → (m ≡ n) ⊎ (m ≡ n → ⊥)
+pub equal_or_not : (m n : ℕ) → (m ≡ n) ⊎ (m ≡ n → ⊥)
 equal_or_not m n = elim (cases_Bool (m == n)) [
   | inl t ↦ inl (eqb-true m n t)
   | inr f ↦ inr (λ e. let t : (m == n) ≡ true = subst (λ k. (m == k) ≡ true) e (eqb_same m) in let bad : true ≡ false = sym t ∙ f in absurd (cc))

@@ -1,41 +1,32 @@
--- The inner structures keep their places, their open grades and their cursor.
-use Rattle.std.proofs.Common.{◌≡◌, ◌≢◌, ◌<◌, ◌≤◌, ◌==◌, ◌+◌, ◌-◌, inl, inr, ℕ, zero, suc, Bool, true, false, cond, not, Option, Some, None, List, [], ◌∷◌, ◌++◌, length, map, replicate, set, get_or, nat_lt, nat_eq, slice_get, slice_index_or, AllPairs, Contains, refl, sym, ap, subst, ◌∙◌, arith, append_assoc, eqb-true, ◌&&◌}
+-- The objects keep their table, their open grades and their cursor.
+use Rattle.std.proofs.Common.{◌≡◌, ◌≢◌, ◌<◌, ◌≤◌, ◌==◌, ◌+◌, ◌-◌, inl, inr, ℕ, zero, suc, Bool, true, false, cond, not, Option, Some, None, List, [], ◌∷◌, ◌++◌, length, map, replicate, set, get_or, nat_lt, nat_eq, is_some, slice_get, slice_index_or, drop, AllPairs, Contains, refl, sym, ap, subst, ◌∙◌, arith, append_assoc, eqb-true, ◌&&◌}
 use Rattle.std.specs.List.{find, position, position_or_len, cons_option}
 use Rattle.std.specs.Option.{option_map}
-use Rattle.std.proofs.lemmas.Bool.{cases_Bool, ltb-false, ltb-true, le-ltb, lt-ltb}
+use Rattle.std.specs.Ordering.{nat_cmp}
+use Rattle.std.proofs.lemmas.Bool.{cases_Bool, ltb-false, ltb-true, le-ltb}
 use Rattle.std.proofs.lemmas.List.{length-append, length-map, length-set, set-append_left, map-set, map-append, get_or_append_left}
 use Rattle.std.proofs.lemmas.List.Sums.{fails_before_first, passes_at_first}
 use Rattle.std.proofs.lemmas.List.Quantifiers.{all_pairs_push}
-use Rattle.std.proofs.lemmas.Option.{slice_get-map, slice_get_within}
+use Rattle.std.proofs.lemmas.Option.{slice_get-map, slice_get-get_or, cond_some}
 use Rattle.ranked_list.specs.declared.row.Row.{Row}
-use Rattle.ranked_list.specs.Table.{objects}
-use Rattle.containers.specs.Keys.{Keys}
-use Rattle.source_state.specs.Grades.{grade_at, AreWithin, IsFirstAbove}
+use Rattle.containers.specs.Values.{Values, value_of, IsSet}
+use Rattle.containers.specs.Ranks.{rank_at, HasNone, IsGreatest}
+use Rattle.containers.proofs.Fitting.{position_more}
+use Rattle.containers.proofs.SlotChanges.{no_greater}
 use Rattle.topk_theory.specs.Transcript.{last_grade}
 use Rattle.topk_theory.specs.Bounds.{grade_among}
 use Rattle.topk_theory.proofs.ThresholdRun.{contains_from_filter_map}
+use Rattle.topk_theory.proofs.ThresholdLists.{map_map, map_same}
 use Rattle.topk_theory.proofs.AgreementLists.{contains_at, contains_here, contains_there, contains_cases, contains_map, contains_nil, slice_get_contains, distinct_head, distinct_tail}
+use Rattle.topk_theory.proofs.AgreementRows.{grade_among_append_none}
 use Rattle.source_state.specs.declared.ask.Ask.{Ask}
 use Rattle.source_state.specs.declared.entry.Settling.{Settling}
-use Rattle.source_state.specs.Asks.{ask_of, open_grade, open_row, open_rows, first_above, is_due, change, new_ask, stops}
-use Rattle.source_state.specs.LogKeeping.{AskList, KeepsAsks, ask_objects}
-use Rattle.source_state.proofs.Lists.{eqb_same, eqb_other, eqb_swap, position_map, find_at_position, find_no_position, find_none, none_not_some, cond_none}
-
--- the grade of an object among rows, by its place among their objects
-grade_found : (rows : List Row) (object : ℕ) → grade_among rows object ≡ option_map (λ (row : Row). row.grade) (find (λ (row : Row). object == row.object) rows)
-grade_found [] object = refl
-grade_found (row ∷ rows) object =
-    ap (λ b. cond b (Some row.grade) (grade_among rows object)) (eqb_swap row.object object)
-    ∙ elim (object == row.object) as (λ b. cond b (Some row.grade) (grade_among rows object) ≡ option_map (λ (one : Row). one.grade) (cond b (Some row) (find (λ (one : Row). object == one.object) rows))) [ true ↦ refl | false ↦ grade_found rows object ]
-
-pub grade_no_place : (rows : List Row) (object : ℕ) → position (nat_eq object) (objects rows) ≡ None → grade_among rows object ≡ None
-grade_no_place rows object e =
-    grade_found rows object ∙ ap (option_map (λ (row : Row). row.grade)) (find_no_position (λ (row : Row). object == row.object) rows (sym (position_map (nat_eq object) (λ (row : Row). row.object) rows) ∙ e))
-
-pub grade_at_place : (rows : List Row) (object place : ℕ) → position (nat_eq object) (objects rows) ≡ Some place
-    → grade_among rows object ≡ option_map (λ (row : Row). row.grade) (slice_get rows place)
-grade_at_place rows object place e =
-    grade_found rows object ∙ ap (option_map (λ (row : Row). row.grade)) (find_at_position (λ (row : Row). object == row.object) rows place (sym (position_map (nat_eq object) (λ (row : Row). row.object) rows) ∙ e))
+use Rattle.source_state.specs.declared.spots.Spot.{Spot}
+use Rattle.source_state.specs.declared.spots.Request.{Request}
+use Rattle.source_state.specs.Asks.{ask_of, open_grade, open_row, open_rows, first_above, is_due, change, settled_asks, held_asks, new_ask, stops}
+use Rattle.source_state.specs.ObjectKeeping.{ObjectList, KeepsObjects, ask_objects, sorted_of, place_of, sorted_at, place_at, standing, standings, listed}
+use Rattle.source_state.proofs.Lists.{eqb_same, eqb_other, position_map, find_at_position, find_no_position, find_none, none_not_some, cond_none}
+use Rattle.source_state.proofs.AskLaws.{grade_other, equal_or_not, changed, unchanged}
 
 -- the last grade of rows is that of their last row
 pub last_is : (above : ℕ) (rows : List Row) (row : Row) → slice_get rows (length rows - 1) ≡ Some row → last_grade above rows ≡ row.grade
@@ -52,9 +43,6 @@ ask_no_place asks object e = find_no_position (λ (ask : Ask). object == ask.obj
 
 pub ask_at_place : (asks : List Ask) (object place : ℕ) → position (nat_eq object) (ask_objects asks) ≡ Some place → ask_of asks object ≡ slice_get asks place
 ask_at_place asks object place e = find_at_position (λ (ask : Ask). object == ask.object) asks place (sym (position_map (nat_eq object) (λ (ask : Ask). ask.object) asks) ∙ e)
-
-pub place_of_ask : (asks : List Ask) (object : ℕ) → position (nat_eq object) (ask_objects asks) ≡ position (λ (ask : Ask). object == ask.object) asks
-place_of_ask asks object = position_map (nat_eq object) (λ (ask : Ask). ask.object) asks
 
 -- an object whose ask isn't found is not among those that were asked
 pub ask_absent : (asks : List Ask) (object : ℕ) → ask_of asks object ≡ None → Contains (ask_objects asks) object → ⊥
@@ -155,13 +143,6 @@ ask_found_is object (first ∷ asks) ask e =
       | inr f ↦ ask_found_is object asks ask (sym (ap (λ b. cond b (Some first) (ask_of asks object)) f) ∙ e)
     ]
 
--- what changes at the place where an object is found; nothing changes where it isn't
-pub change_at : (object : ℕ) (turn : Ask → Ask) (asks : List Ask) (place : ℕ) (ask : Ask) → AllPairs (λ (one : ℕ) (other : ℕ). one ≢ other) (ask_objects asks)
-    → position (λ (one : Ask). object == one.object) asks ≡ Some place → slice_get asks place ≡ Some ask
-    → set asks place (turn ask) ≡ map (change object turn) asks
-change_at object turn asks place ask d found e =
-    set_change object turn asks place ask d e (ask_found_is object asks ask (find_at_position (λ (one : Ask). object == one.object) asks place found ∙ e))
-
 pub change_unfound : (object : ℕ) (turn : Ask → Ask) (asks : List Ask) → ask_of asks object ≡ None → map (change object turn) asks ≡ asks
 change_unfound object turn [] e = refl
 change_unfound object turn (ask ∷ asks) e =
@@ -191,58 +172,107 @@ grades_push room asks object held few =
     ∙ ap (λ os. os ++ replicate rest None)
     (ap (λ o. map open_grade asks ++ o ∷ []) (sym (none_open object held)) ∙ sym (map-append open_grade asks (ask ∷ [])))
 
-keeps_pushed : (places : Keys) (asks : List Ask) (grades : List (Option ℕ)) (cursor next capacity reserved object : ℕ) (held : Bool)
-    → KeepsAsks (record { room = places.room; asks = asks }) places grades cursor capacity → ask_of asks object ≡ None → length asks < places.room
-    → next ≡ position_or_len is_due (asks ++ new_ask object held ∷ []) → capacity ≤ reserved
-    → KeepsAsks (record { room = places.room; asks = asks ++ new_ask object held ∷ [] })
-    (record places { keys = places.keys ++ object ∷ [] }) grades next reserved
-keeps_pushed places asks grades cursor next capacity reserved object held k absent few at large = record {
-  keys = ap (λ os. os ++ object ∷ []) k.keys ∙ sym (map-append (λ (ask : Ask). ask.object) asks (new_ask object held ∷ []));
-  stands = k.stands ∙ grades_push places.room asks object held few;
-  cursor = at;
-  distinct = subst (AllPairs (λ (one : ℕ) (other : ℕ). one ≢ other)) (sym (map-append (λ (ask : Ask). ask.object) asks (new_ask object held ∷ [])))
-      (all_pairs_push (λ (one : ℕ) (other : ℕ). one ≢ other) (ask_objects asks) object k.distinct
-      (λ i d l. λ e. ask_absent asks object absent (subst (λ o. Contains (ask_objects asks) o) e (contains_at (ask_objects asks) i d l))));
-  within = omega (arith, length-append asks (new_ask object held ∷ []));
-  small = k.small;
-  reserved = let enough = k.reserved in omega arith;
-}
+-- ---- the table
+-- what is read of an object after one was set
+at_set : (f : Option Spot → Option ℕ) (spots after : Values Spot) (object : ℕ) (spot : Spot) → IsSet spots after object spot → (other : ℕ)
+    → f (value_of after other) ≡ cond (object == other) (f (Some spot)) (f (value_of spots other))
+at_set f spots after object spot is other =
+    ap f (is other)
+    ∙ elim (object == other) as (λ b. f (cond b (Some spot) (value_of spots other)) ≡ cond b (f (Some spot)) (f (value_of spots other))) [ true ↦ refl | false ↦ refl ]
 
--- the asks after one more
-pub keeps_push : (places added : Keys) (asks more : List Ask) (grades : List (Option ℕ)) (cursor next capacity reserved object : ℕ) (held : Bool)
-    → KeepsAsks (record { room = places.room; asks = asks }) places grades cursor capacity → ask_of asks object ≡ None → length asks < places.room
-    → added ≡ record places { keys = places.keys ++ object ∷ [] } → more ≡ asks ++ new_ask object held ∷ [] → next ≡ position_or_len is_due more
-    → capacity ≤ reserved → KeepsAsks (record { room = added.room; asks = more }) added grades next reserved
-keeps_push places added asks more grades cursor next capacity reserved object held k absent few with_key with_ask with_next large =
-    subst (λ (keys : Keys). KeepsAsks (record { room = keys.room; asks = more }) keys grades next reserved) (sym with_key)
-    (subst (λ (list : List Ask). KeepsAsks (record { room = places.room; asks = list }) (record places { keys = places.keys ++ object ∷ [] }) grades next reserved) (sym with_ask)
-    (keeps_pushed places asks grades cursor next capacity reserved object held k absent few (with_next ∙ ap (position_or_len is_due) with_ask) large))
+-- what is kept where all is as before but for one object
+set_as : (f : Option Spot → Option ℕ) (spots after : Values Spot) (object : ℕ) (spot : Spot) (before now : ℕ → Option ℕ) → IsSet spots after object spot
+    → ((other : ℕ) → f (value_of spots other) ≡ before other) → f (Some spot) ≡ now object
+    → ((other : ℕ) → (object ≡ other → ⊥) → before other ≡ now other) → (other : ℕ) → f (value_of after other) ≡ now other
+set_as f spots after object spot before now is had here rest other =
+    at_set f spots after object spot is other
+    ∙ elim (equal_or_not object other) [
+      | inl same ↦
+          ap (λ b. cond b (f (Some spot)) (f (value_of spots other))) (subst (λ o. (object == o) ≡ true) same (eqb_same object)) ∙ here ∙ ap now same
+      | inr apart ↦ ap (λ b. cond b (f (Some spot)) (f (value_of spots other))) (eqb_other object other apart) ∙ had other ∙ rest other apart
+    ]
 
--- the asks after a change of one
-pub keeps_put : (places : Keys) (asks : List Ask) (grades after : List (Option ℕ)) (cursor next capacity place : ℕ) (ask : Ask)
-    → KeepsAsks (record { room = places.room; asks = asks }) places grades cursor capacity
-    → option_map (λ (had : Ask). had.object) (slice_get asks place) ≡ Some ask.object → after ≡ set grades place (open_grade ask)
-    → next ≡ position_or_len is_due (set asks place ask) → KeepsAsks (record { room = places.room; asks = set asks place ask }) places after next capacity
-keeps_put places asks grades after cursor next capacity place ask k same written at = record {
-  keys = k.keys ∙ sym objects_stay;
-  stands = written ∙ ap (λ gs. set gs place (open_grade ask)) k.stands ∙ set-append_left (map open_grade asks) (replicate (places.room - length asks) None) place (open_grade ask) (subst (λ n. place < n) (sym (length-map asks open_grade)) within)
-      ∙ ap (λ gs. gs ++ replicate (places.room - length asks) None) (sym (map-set open_grade asks place ask))
-      ∙ ap (λ n. map open_grade (set asks place ask) ++ replicate (places.room - n) None) (sym (length-set asks place ask));
-  cursor = at;
-  distinct = subst (AllPairs (λ (one : ℕ) (other : ℕ). one ≢ other)) (sym objects_stay) k.distinct;
-  within = let e : length (set asks place ask) ≡ length asks = length-set asks place ask in let w = k.within in omega arith;
-  small = k.small;
-  reserved = k.reserved;
-}
+-- a further row gives its object its grade
+grade_more : (rows : List Row) (row : Row) → grade_among rows row.object ≡ None → grade_among (rows ++ row ∷ []) row.object ≡ Some row.grade
+grade_more rows row none = grade_among_append_none rows (row ∷ []) row.object none ∙ ap (λ b. cond b (Some row.grade) None) (eqb_same row.object)
+
+-- the objects of requests are those of the asks
+objects_standing : (spots after : Values Spot) (requests : List Request) → ask_objects (standings after requests) ≡ ask_objects (standings spots requests)
+objects_standing spots after requests =
+    map_map (λ (ask : Ask). ask.object) (standing after) requests ∙ sym (map_map (λ (ask : Ask). ask.object) (standing spots) requests)
+
+-- a request stands otherwise where the table says otherwise whether the rows hold its object
+stands_as : (spots after : Values Spot) (request : Request) → is_some (sorted_at after request.object) ≡ is_some (sorted_at spots request.object)
+    → standing after request ≡ standing spots request
+stands_as spots after request same = ap (λ held. let ask : Ask = record { object = request.object; settling = request.settling; is_held = held } in ask) same
+
+held_standings : (spots after : Values Spot) (object grade : ℕ) (spot : Spot) (requests : List Request) → IsSet spots after object spot → spot.sorted ≡ Some grade
+    → standings after requests ≡ held_asks object (standings spots requests)
+held_standings spots after object grade spot requests is held =
+    map_same _ _ requests (λ request c. each request) ∙ sym (map_map (change object (λ ask. record ask { is_held = true })) (standing spots) requests)
   where
-    there : slice_get (ask_objects asks) place ≡ Some ask.object
-    there = slice_get-map (λ (had : Ask). had.object) asks place ∙ same
+    each : (request : Request) → standing after request ≡ change object (λ ask. record ask { is_held = true }) (standing spots request)
+    each request = elim (equal_or_not object request.object) [
+      | inl same ↦
+          ap (λ b. let ask : Ask = record { object = request.object; settling = request.settling; is_held = b } in ask)
+          (ap is_some (at_set sorted_of spots after object spot is request.object
+          ∙ ap (λ b. cond b spot.sorted (sorted_at spots request.object)) (subst (λ o. (object == o) ≡ true) same (eqb_same object)) ∙ held))
+          ∙ sym (changed object (λ ask. record ask { is_held = true }) (standing spots request) same)
+      | inr apart ↦
+          stands_as spots after request (ap is_some (at_set sorted_of spots after object spot is request.object
+          ∙ ap (λ b. cond b spot.sorted (sorted_at spots request.object)) (eqb_other object request.object apart)))
+          ∙ sym (unchanged object (λ ask. record ask { is_held = true }) (standing spots request) apart)
+    ]
 
-    within : place < length asks
-    within = subst (λ n. place < n) (length-map asks (λ (had : Ask). had.object)) (slice_get_within (ask_objects asks) place ask.object there)
+same_standings : (spots after : Values Spot) (object : ℕ) (spot : Spot) (requests : List Request) → IsSet spots after object spot
+    → spot.sorted ≡ sorted_at spots object → standings after requests ≡ standings spots requests
+same_standings spots after object spot requests is same =
+    map_same _ _ requests (λ request c. stands_as spots after request (ap is_some
+    (set_as sorted_of spots after object spot (sorted_at spots) (sorted_at spots) is (λ other. refl) same (λ other apart. refl) request.object)))
 
-    objects_stay : ask_objects (set asks place ask) ≡ ask_objects asks
-    objects_stay = map-set (λ (had : Ask). had.object) asks place ask ∙ set_same (ask_objects asks) place ask.object there
+-- ---- the request at a place
+get_inside : {X : Type 0} (xs : List X) (i : ℕ) → i < length xs → (x : X) × (slice_get xs i ≡ Some x)
+get_inside [] i l = absurd (omega arith)
+get_inside (x ∷ xs) zero l = (x, refl)
+get_inside (x ∷ xs) (suc i) l = get_inside xs i (omega arith)
+
+position_within : (p : ℕ → Bool) (xs : List ℕ) (i : ℕ) → position p xs ≡ Some i → i < length xs
+position_within p xs i e =
+    let parts = cond_some (nat_lt (position_or_len p xs) (length xs)) (position_or_len p xs) i e in
+    subst (λ n. n < length xs) parts.1 (ltb-true (position_or_len p xs) (length xs) parts.0)
+
+-- the place of an object's ask is within the requests
+pub asked_within : (spots : Values Spot) (requests : List Request) (object place : ℕ) → position (nat_eq object) (ask_objects (standings spots requests)) ≡ Some place
+    → place < length requests
+asked_within spots requests object place e =
+    subst (λ n. place < n) (length-map (standings spots requests) (λ (ask : Ask). ask.object) ∙ length-map requests (standing spots))
+    (position_within (nat_eq object) (ask_objects (standings spots requests)) place e)
+
+-- the request of an object at the place of its ask
+pub record IsRequest (spots : Values Spot) (requests : List Request) (object place : ℕ) : Type 0 where
+  pub request : Request
+  pub there : slice_get (standings spots requests) place ≡ Some (standing spots request)
+  pub same : object ≡ request.object
+
+request_at : (spots : Values Spot) (requests : List Request) (object place : ℕ) → position (nat_eq object) (ask_objects (standings spots requests)) ≡ Some place
+    → IsRequest spots requests object place
+request_at spots requests object place e =
+    let got = get_inside requests place (asked_within spots requests object place e) in
+    let there : slice_get (standings spots requests) place ≡ Some (standing spots got.0) = slice_get-map (standing spots) requests place ∙ ap (option_map (standing spots)) got.1 in
+    record {
+      request = got.0;
+      there = there;
+      same = ask_found_is object (standings spots requests) (standing spots got.0) (ask_at_place (standings spots requests) object place e ∙ there);
+    }
+
+-- ---- the tops
+stands_set : (room : ℕ) (asks : List Ask) (place : ℕ) (ask : Ask) (tops : List (Option ℕ)) → tops ≡ map open_grade asks ++ replicate (room - length asks) None
+    → place < length asks → set tops place (open_grade ask) ≡ map open_grade (set asks place ask) ++ replicate (room - length (set asks place ask)) None
+stands_set room asks place ask tops is within =
+    ap (λ gs. set gs place (open_grade ask)) is
+    ∙ set-append_left (map open_grade asks) (replicate (room - length asks) None) place (open_grade ask) (subst (λ n. place < n) (sym (length-map asks open_grade)) within)
+    ∙ ap (λ gs. gs ++ replicate (room - length asks) None) (sym (map-set open_grade asks place ask))
+    ∙ ap (λ n. map open_grade (set asks place ask) ++ replicate (room - n) None) (sym (length-set asks place ask))
 
 read_mapped : (f : Ask → Option ℕ) (asks : List Ask) (i : ℕ) (ask : Ask) → i < length asks → slice_index_or asks i ask ≡ ask
     → slice_index_or (map f asks) i None ≡ f ask
@@ -250,10 +280,10 @@ read_mapped f [] i ask l e = absurd (omega arith)
 read_mapped f (first ∷ asks) zero ask l e = ap f e
 read_mapped f (first ∷ asks) (suc i) ask l e = read_mapped f asks i ask (omega arith) e
 
--- the open grade of an ask stands in the tree
-grade_of : (list : AskList) (places : Keys) (grades : List (Option ℕ)) (cursor capacity : ℕ) (ask : Ask) → KeepsAsks list places grades cursor capacity
-    → (c : Contains list.asks ask) → grade_at grades c.0 ≡ open_grade ask
-grade_of list places grades cursor capacity ask k c =
+-- the open grade of an ask stands among the tops
+grade_of : (list : ObjectList) (spots : Values Spot) (tops : List (Option ℕ)) (cursor row_capacity ask_capacity : ℕ) (ask : Ask)
+    → KeepsObjects list spots tops cursor row_capacity ask_capacity → (c : Contains list.asks ask) → rank_at tops c.0 ≡ open_grade ask
+grade_of list spots tops cursor row_capacity ask_capacity ask k c =
     ap (λ gs. slice_index_or gs c.0 None) k.stands
     ∙ get_or_append_left (map open_grade list.asks) (replicate (list.room - length list.asks) None) None c.0 (subst (λ n. c.0 < n) (sym (length-map list.asks open_grade)) c.1)
     ∙ read_mapped open_grade list.asks c.0 ask c.1 c.2
@@ -275,78 +305,36 @@ none_above asks bottom h =
     open_from : (ask : Ask) (row : Row) → open_row ask ≡ Some row → open_grade ask ≡ Some row.grade
     open_from ask row e = open_of (open_grade ask) ask.object row e
 
-pub bounded_none_above : (list : AskList) (places : Keys) (grades : List (Option ℕ)) (cursor capacity bottom : ℕ)
-    → KeepsAsks list places grades cursor capacity → AreWithin grades bottom → first_above bottom list.asks ≡ None
-bounded_none_above list places grades cursor capacity bottom k within =
-    none_above list.asks bottom (λ ask c grade e. within.each c.0 grade (grade_of list places grades cursor capacity ask k c ∙ e))
+pub no_tops : (list : ObjectList) (spots : Values Spot) (tops : List (Option ℕ)) (cursor row_capacity ask_capacity bottom : ℕ)
+    → KeepsObjects list spots tops cursor row_capacity ask_capacity → HasNone tops → first_above bottom list.asks ≡ None
+no_tops list spots tops cursor row_capacity ask_capacity bottom k none =
+    none_above list.asks bottom (λ ask c grade e.
+    absurd (none_not_some (sym (none c.0) ∙ grade_of list spots tops cursor row_capacity ask_capacity ask k c ∙ e)))
 
--- where a place is the first whose grade is above one, its ask is the first that is
-abbrev row_of : ℕ → Option ℕ → Option Row
-row_of object grade = option_map (λ (g : ℕ). let one : Row = record { object = object; grade = g } in one) grade
+pub low_tops : (list : ObjectList) (spots : Values Spot) (tops : List (Option ℕ)) (cursor row_capacity ask_capacity bottom key rank : ℕ)
+    → KeepsObjects list spots tops cursor row_capacity ask_capacity → IsGreatest nat_cmp tops key rank → rank ≤ bottom → first_above bottom list.asks ≡ None
+low_tops list spots tops cursor row_capacity ask_capacity bottom key rank k top low =
+    none_above list.asks bottom (λ ask c grade e.
+    let least = no_greater grade rank (top.none_above c.0 grade (grade_of list spots tops cursor row_capacity ask_capacity ask k c ∙ e)) in omega arith)
 
-found_here : (bottom object : ℕ) (o : Option ℕ) (rest : List Row) (grade : ℕ) → o ≡ Some grade → bottom < grade
-    → row_of object o ≡ find (λ (row : Row). nat_lt bottom row.grade) (cons_option (row_of object o) rest)
-found_here bottom object None rest grade e above = absurd (none_not_some e)
-found_here bottom object (Some other) rest grade e above =
-    let is : other ≡ grade = cc in
-    let one : Row = record { object = object; grade = other } in
-    ap (λ b. cond b (Some one) (find (λ (row : Row). nat_lt bottom row.grade) rest)) (sym (lt-ltb bottom other (omega arith)))
+-- ---- the first open grade above one, ask by ask
+pub open_none : (bottom : ℕ) (ask : Ask) (asks : List Ask) → first_above bottom (ask ∷ []) ≡ None → first_above bottom (ask ∷ asks) ≡ first_above bottom asks
+open_none bottom ask asks e = by_row (open_row ask) e
+  where
+    by_row : (o : Option Row) → find (λ (row : Row). nat_lt bottom row.grade) (cons_option o []) ≡ None
+        → find (λ (row : Row). nat_lt bottom row.grade) (cons_option o (open_rows asks)) ≡ find (λ (row : Row). nat_lt bottom row.grade) (open_rows asks)
+    by_row None e = refl
+    by_row (Some row) e = ap (λ b. cond b (Some row) (find (λ (one : Row). nat_lt bottom one.grade) (open_rows asks))) (cond_none (nat_lt bottom row.grade) row None e).0
 
-passed_by : (bottom object : ℕ) (o : Option ℕ) (rest : List Row) → ((other : ℕ) → o ≡ Some other → other ≤ bottom)
-    → find (λ (row : Row). nat_lt bottom row.grade) (cons_option (row_of object o) rest) ≡ find (λ (row : Row). nat_lt bottom row.grade) rest
-passed_by bottom object None rest low = refl
-passed_by bottom object (Some other) rest low =
-    let one : Row = record { object = object; grade = other } in
-    ap (λ b. cond b (Some one) (find (λ (row : Row). nat_lt bottom row.grade) rest)) (le-ltb bottom other (low other refl))
-
-first_at : (bottom : ℕ) (asks : List Ask) (place grade : ℕ)
-    → ((before other : ℕ) → before < place → slice_index_or (map open_grade asks) before None ≡ Some other → other ≤ bottom)
-    → slice_index_or (map open_grade asks) place None ≡ Some grade → bottom < grade
-    → (ask : Ask) × (slice_get asks place ≡ Some ask) × (open_row ask ≡ first_above bottom asks)
-first_at bottom [] place grade before e above = absurd (none_not_some e)
-first_at bottom (ask ∷ asks) zero grade before e above = (ask, refl, found_here bottom ask.object (open_grade ask) (open_rows asks) grade e above)
-first_at bottom (ask ∷ asks) (suc place) grade before e above =
-    let rest = first_at bottom asks place grade (λ at other less is. before (suc at) other (omega arith) is) e above in
-    (rest.0, rest.1, rest.2 ∙ sym (passed_by bottom ask.object (open_grade ask) (open_rows asks) (λ other is. before 0 other (omega arith) is)))
-
--- a grade that stands in a list stands in the longer one, and none stands in what only fills it up
-grade_kept : (grades more : List (Option ℕ)) (place grade : ℕ) → slice_index_or grades place None ≡ Some grade
-    → slice_index_or (grades ++ more) place None ≡ Some grade
-grade_kept [] more place grade e = absurd (none_not_some e)
-grade_kept (first ∷ grades) more zero grade e = e
-grade_kept (first ∷ grades) more (suc place) grade e = grade_kept grades more place grade e
-
-none_filled : (n place grade : ℕ) → slice_index_or (replicate n None) place None ≡ Some grade → ⊥
-none_filled zero place grade e = none_not_some e
-none_filled (suc n) zero grade e = none_not_some e
-none_filled (suc n) (suc place) grade e = none_filled n place grade e
-
-grade_inside : (grades : List (Option ℕ)) (n place grade : ℕ) → slice_index_or (grades ++ replicate n None) place None ≡ Some grade
-    → slice_index_or grades place None ≡ Some grade
-grade_inside [] n place grade e = absurd (none_filled n place grade e)
-grade_inside (first ∷ grades) n zero grade e = e
-grade_inside (first ∷ grades) n (suc place) grade e = grade_inside grades n place grade e
-
-pub first_found : (list : AskList) (places : Keys) (grades : List (Option ℕ)) (cursor capacity bottom place : ℕ) → KeepsAsks list places grades cursor capacity
-    → IsFirstAbove grades bottom place → (ask : Ask) × (slice_get list.asks place ≡ Some ask) × (open_row ask ≡ first_above bottom list.asks)
-first_found list places grades cursor capacity bottom place k found =
-    first_at bottom list.asks place found.grade
-    (λ before other less e. found.none_before before other less (ap (λ gs. slice_index_or gs before None) k.stands ∙ grade_kept (map open_grade list.asks) (replicate (list.room - length list.asks) None) before other e))
-    (grade_inside (map open_grade list.asks) (list.room - length list.asks) place found.grade (sym (ap (λ gs. slice_index_or gs place None) k.stands) ∙ found.there))
-    found.above
-
--- what is read at the place of the first grade above one
-pub read_above : (bottom place : ℕ) (list : AskList) (ask : Ask)
-    → (found : Ask) × (slice_get list.asks place ≡ Some found) × (open_row found ≡ first_above bottom list.asks) → Some ask ≡ slice_get list.asks place
-    → open_row ask ≡ first_above bottom list.asks
-read_above bottom place list ask first read =
-    let same : Some ask ≡ Some first.0 = read ∙ first.1 in
-    let is : ask ≡ first.0 = cc in
-    ap open_row is ∙ first.2
-
-pub not_unread : (bottom place : ℕ) (list : AskList)
-    → (found : Ask) × (slice_get list.asks place ≡ Some found) × (open_row found ≡ first_above bottom list.asks) → None ≡ slice_get list.asks place → ⊥
-not_unread bottom place list first read = none_not_some (read ∙ first.1)
+pub open_some : (bottom : ℕ) (ask : Ask) (asks : List Ask) (found : Row) → first_above bottom (ask ∷ []) ≡ Some found → first_above bottom (ask ∷ asks) ≡ Some found
+open_some bottom ask asks found e = by_row (open_row ask) e
+  where
+    by_row : (o : Option Row) → find (λ (row : Row). nat_lt bottom row.grade) (cons_option o []) ≡ Some found
+        → find (λ (row : Row). nat_lt bottom row.grade) (cons_option o (open_rows asks)) ≡ Some found
+    by_row None e = absurd (none_not_some e)
+    by_row (Some row) e =
+        let parts = cond_some (nat_lt bottom row.grade) row found e in
+        ap (λ b. cond b (Some row) (find (λ (one : Row). nat_lt bottom one.grade) (open_rows asks))) parts.0 ∙ ap (λ (one : Row). Some one) parts.1
 
 -- the steps of the cursor
 stop_cases : (asks : List Ask) (i : ℕ) (d : Ask) → i < length asks → stops (slice_get asks i) ≡ is_due (get_or asks i d)
@@ -376,3 +364,230 @@ pub after_set : (cursor : ℕ) (asks now : List Ask) (place : ℕ) (ask : Ask) �
 after_set cursor asks now place ask at passed is =
     subst (λ (list : List Ask). cursor ≤ position_or_len is_due list) (sym is)
     (subst (λ n. n ≤ position_or_len is_due (set asks place ask)) (sym at) (place_set is_due asks place ask passed))
+
+-- what is left of a list at a place
+drop_at : {X : Type 0} (xs : List X) (i : ℕ) (x : X) → slice_get xs i ≡ Some x → drop i xs ≡ x ∷ drop (i + 1) xs
+drop_at [] i x e = absurd (none_not_some e)
+drop_at (y ∷ xs) zero x e = let is : y ≡ x = cc in ap (λ z. z ∷ xs) is
+drop_at (y ∷ xs) (suc i) x e = let next : suc (i + 1) ≡ suc i + 1 = omega arith in drop_at xs i x e ∙ ap (λ n. x ∷ drop n (y ∷ xs)) next
+
+pub open_more : (bottom : ℕ) (asks : List Ask) (i : ℕ) (ask : Ask) → slice_get asks i ≡ Some ask → first_above bottom (ask ∷ []) ≡ None
+    → first_above bottom (drop i asks) ≡ first_above bottom asks → first_above bottom (drop (i + 1) asks) ≡ first_above bottom asks
+open_more bottom asks i ask there none left =
+    sym (ap (first_above bottom) (drop_at asks i ask there) ∙ open_none bottom ask (drop (i + 1) asks) none) ∙ left
+
+pub open_found : (bottom : ℕ) (asks : List Ask) (i : ℕ) (ask : Ask) (row : Row) → slice_get asks i ≡ Some ask → first_above bottom (ask ∷ []) ≡ Some row
+    → first_above bottom (drop i asks) ≡ first_above bottom asks → Some row ≡ first_above bottom asks
+open_found bottom asks i ask row there found left =
+    sym (ap (first_above bottom) (drop_at asks i ask there) ∙ open_some bottom ask (drop (i + 1) asks) row found) ∙ left
+
+-- the request at a place, and what is found of it
+module _ (spots : Values Spot) (requests : List Request) (bottom i : ℕ) (d : Request) (ask : Ask) (found : Option Row) (within : i < length requests)
+    (is : ask ≡ standing spots (get_or requests i d)) (read : found ≡ first_above bottom (ask ∷ [])) where
+  there : slice_get (standings spots requests) i ≡ Some ask
+  there =
+      slice_get-map (standing spots) requests i ∙ ap (option_map (standing spots)) (slice_get-get_or requests i d within)
+      ∙ ap (λ (a : Ask). Some a) (sym is)
+
+  pub open_step : is_some found ≡ false → first_above bottom (drop i (standings spots requests)) ≡ first_above bottom (standings spots requests)
+      → first_above bottom (drop (i + 1) (standings spots requests)) ≡ first_above bottom (standings spots requests)
+  open_step none left = open_more bottom (standings spots requests) i ask there (sym read ∙ empty found none) left
+    where
+      empty : (o : Option Row) → is_some o ≡ false → o ≡ None
+      empty None e = refl
+      empty (Some row) e = absurd (cc)
+
+  pub open_done : is_some found ≡ true → first_above bottom (drop i (standings spots requests)) ≡ first_above bottom (standings spots requests)
+      → found ≡ first_above bottom (standings spots requests)
+  open_done some left = by_found found read some
+    where
+      by_found : (o : Option Row) → o ≡ first_above bottom (ask ∷ []) → is_some o ≡ true → o ≡ first_above bottom (standings spots requests)
+      by_found None e some = absurd (cc)
+      by_found (Some row) e some = open_found bottom (standings spots requests) i ask row there (sym e) left
+
+-- ---- what the objects keep
+list_with : (room : ℕ) (rows : List Row) (asks more : List Ask) → asks ≡ more
+    → (let one : ObjectList = record { room = room; rows = rows; asks = asks } in let other : ObjectList = record { room = room; rows = rows; asks = more } in one ≡ other)
+list_with room rows asks more e = ap (λ os. let list : ObjectList = record { room = room; rows = rows; asks = os } in list) e
+
+module _ (room : ℕ) (spots : Values Spot) (rows : List Row) (requests : List Request) (tops : List (Option ℕ)) (cursor row_capacity ask_capacity : ℕ)
+    (k : KeepsObjects (listed room spots rows requests) spots tops cursor row_capacity ask_capacity) where
+  many : length (standings spots requests) ≡ length requests
+  many = length-map requests (standing spots)
+
+  -- ---- a row that is put last
+  module _ (after : Values Spot) (row : Row) (spot : Spot) (is : IsSet spots after row.object spot) (held : spot.sorted ≡ Some row.grade) where
+    pub row_shown : listed room after (rows ++ row ∷ []) requests
+        ≡ (let list : ObjectList = record { room = room; rows = rows ++ row ∷ []; asks = held_asks row.object (standings spots requests) } in list)
+    row_shown = list_with room (rows ++ row ∷ []) _ _ (held_standings spots after row.object row.grade spot requests is held)
+
+    keeps_row : (tops2 : List (Option ℕ)) (next wide : ℕ) → grade_among rows row.object ≡ None → length rows < room → spot.place ≡ place_at spots row.object
+        → spots.spare ≤ after.spare + 1 → tops2 ≡ map open_grade (standings after requests) ++ replicate (room - length (standings after requests)) None
+        → next ≡ position_or_len is_due (standings after requests) → row_capacity ≤ wide
+        → KeepsObjects (listed room after (rows ++ row ∷ []) requests) after tops2 next wide ask_capacity
+    keeps_row tops2 next wide none few place spare stands at wider =
+        let same = objects_standing spots after requests in
+        let size = length-append rows (row ∷ []) in
+        let count = length-map requests (standing after) in
+        let before = many in
+        let few_asks = k.few_asks in
+        let had = k.spare in
+        let roomy = k.row_room in
+        record {
+          sorted = set_as sorted_of spots after row.object spot (grade_among rows) (grade_among (rows ++ row ∷ [])) is k.sorted
+              (held ∙ sym (grade_more rows row none)) (λ other apart. sym (grade_other rows row other apart));
+          placed = set_as place_of spots after row.object spot (λ object. position (nat_eq object) (ask_objects (standings spots requests)))
+              (λ object. position (nat_eq object) (ask_objects (standings after requests))) is k.placed
+              (place ∙ k.placed row.object ∙ ap (position (nat_eq row.object)) (sym same)) (λ other apart. ap (position (nat_eq other)) (sym same));
+          distinct = subst (AllPairs (λ (one : ℕ) (other : ℕ). one ≢ other)) (sym same) k.distinct;
+          stands = stands;
+          cursor = at;
+          few_rows = omega arith;
+          few_asks = omega arith;
+          small = k.small;
+          row_room = omega arith;
+          ask_room = k.ask_room;
+          spare = omega arith;
+        }
+
+    -- its object wasn't asked for
+    pub row_unasked : (wide : ℕ) → grade_among rows row.object ≡ None → length rows < room → spot.place ≡ place_at spots row.object
+        → position (nat_eq row.object) (ask_objects (standings spots requests)) ≡ None → spots.spare ≤ after.spare + 1 → row_capacity ≤ wide
+        → KeepsObjects (listed room after (rows ++ row ∷ []) requests) after tops cursor wide ask_capacity
+    row_unasked wide none few place unasked spare wider =
+        let same : standings after requests ≡ standings spots requests =
+        held_standings spots after row.object row.grade spot requests is held
+        ∙ change_unfound row.object (λ ask. record ask { is_held = true }) (standings spots requests) (ask_no_place (standings spots requests) row.object unasked) in
+        keeps_row tops cursor wide none few place spare
+        (subst (λ (os : List Ask). tops ≡ map open_grade os ++ replicate (room - length os) None) (sym same) k.stands)
+        (subst (λ (os : List Ask). cursor ≡ position_or_len is_due os) (sym same) k.cursor) wider
+
+    -- it was, at this place
+    module _ (place : ℕ) (asked : position (nat_eq row.object) (ask_objects (standings spots requests)) ≡ Some place) where
+      abbrev held_ask : Ask
+      held_ask = record (standing spots (request_at spots requests row.object place asked).request) { is_held = true }
+
+      held_set : standings after requests ≡ set (standings spots requests) place held_ask
+      held_set =
+          let at = request_at spots requests row.object place asked in
+          held_standings spots after row.object row.grade spot requests is held
+          ∙ sym (set_change row.object (λ ask. record ask { is_held = true }) (standings spots requests) place (standing spots at.request) k.distinct at.there at.same)
+
+      pub row_passed : cursor ≤ position_or_len is_due (standings after requests)
+      row_passed = after_set cursor (standings spots requests) (standings after requests) place held_ask k.cursor refl held_set
+
+      pub row_asked : (tops2 : List (Option ℕ)) (next wide : ℕ) → grade_among rows row.object ≡ None → length rows < room
+          → spot.place ≡ place_at spots row.object → spots.spare ≤ after.spare + 1 → tops2 ≡ set tops place None
+          → next ≡ position_or_len is_due (standings after requests) → row_capacity ≤ wide
+          → KeepsObjects (listed room after (rows ++ row ∷ []) requests) after tops2 next wide ask_capacity
+      row_asked tops2 next wide none few same spare written at wider =
+          let within : place < length (standings spots requests) = subst (λ n. place < n) (sym many) (asked_within spots requests row.object place asked) in
+          keeps_row tops2 next wide none few same spare
+          (subst (λ (os : List Ask). tops2 ≡ map open_grade os ++ replicate (room - length os) None) (sym held_set)
+          (written ∙ stands_set room (standings spots requests) place held_ask tops k.stands within)) at wider
+
+  -- ---- an ask that is put last
+  module _ (after : Values Spot) (object : ℕ) (spot : Spot) (is : IsSet spots after object spot) (same : spot.sorted ≡ grade_among rows object) where
+    abbrev pub more : List Request
+    more = let request : Request = record { object = object; settling = None } in requests ++ request ∷ []
+
+    sorted_after : (other : ℕ) → sorted_at after other ≡ grade_among rows other
+    sorted_after = set_as sorted_of spots after object spot (grade_among rows) (grade_among rows) is k.sorted same (λ other apart. refl)
+
+    asked_standings : standings after more ≡ standings spots requests ++ new_ask object (is_some (grade_among rows object)) ∷ []
+    asked_standings =
+        let request : Request = record { object = object; settling = None } in
+        let last : standing after request ≡ new_ask object (is_some (grade_among rows object)) = ap (λ o. new_ask object (is_some o)) (sorted_after object) in
+        map-append (standing after) requests (request ∷ [])
+        ∙ ap (λ (os : List Ask). os ++ standing after request ∷ []) (same_standings spots after object spot requests is (same ∙ sym (k.sorted object)))
+        ∙ ap (λ (ask : Ask). standings spots requests ++ ask ∷ []) last
+
+    pub ask_shown : listed room after rows more
+        ≡ (let list : ObjectList = record { room = room; rows = rows; asks = standings spots requests ++ new_ask object (is_some (grade_among rows object)) ∷ [] } in list)
+    ask_shown = list_with room rows _ _ asked_standings
+
+    pub ask_passed : cursor ≤ position_or_len is_due (standings after more)
+    ask_passed = after_push cursor (standings spots requests) (standings after more) (standings after more) (new_ask object (is_some (grade_among rows object))) k.cursor asked_standings refl
+
+    pub keeps_ask : (next wide : ℕ) → ask_of (standings spots requests) object ≡ None → length (standings spots requests) < room
+        → spot.place ≡ Some (length requests) → spots.spare ≤ after.spare + 1 → next ≡ position_or_len is_due (standings after more) → ask_capacity ≤ wide
+        → KeepsObjects (listed room after rows more) after tops next row_capacity wide
+    keeps_ask next wide absent few place spare at wider =
+        let held = is_some (grade_among rows object) in
+        let objects : List ℕ = ask_objects (standings spots requests) in
+        let unasked = ask_absent (standings spots requests) object absent in
+        let named : ask_objects (standings spots requests ++ new_ask object held ∷ []) ≡ objects ++ object ∷ [] =
+        map-append (λ (ask : Ask). ask.object) (standings spots requests) (new_ask object held ∷ []) in
+        let count : length objects ≡ length requests = length-map (standings spots requests) (λ (ask : Ask). ask.object) ∙ many in
+        let size = length-append (standings spots requests) (new_ask object held ∷ []) in
+        let had = k.spare in
+        let roomy = k.ask_room in
+        subst (λ (os : List Ask). KeepsObjects (record { room = room; rows = rows; asks = os }) after tops next row_capacity wide) (sym asked_standings) (record {
+          sorted = sorted_after;
+          placed = set_as place_of spots after object spot (λ other. position (nat_eq other) objects)
+              (λ other. position (nat_eq other) (ask_objects (standings spots requests ++ new_ask object held ∷ []))) is k.placed
+              (place ∙ ap (λ n. Some n) (sym count)
+              ∙ sym (ap (position (nat_eq object)) named ∙ position_more object object objects unasked
+              ∙ ap (λ b. cond b (Some (length objects)) (position (nat_eq object) objects)) (eqb_same object)))
+              (λ other apart.
+              sym (ap (position (nat_eq other)) named ∙ position_more object other objects unasked
+              ∙ ap (λ b. cond b (Some (length objects)) (position (nat_eq other) objects)) (eqb_other object other apart)));
+          distinct = subst (AllPairs (λ (one : ℕ) (other : ℕ). one ≢ other)) (sym named)
+              (all_pairs_push (λ (one : ℕ) (other : ℕ). one ≢ other) objects object k.distinct
+              (λ i d l. λ e. unasked (subst (λ o. Contains objects o) e (contains_at objects i d l))));
+          stands = k.stands ∙ grades_push room (standings spots requests) object held few;
+          cursor = at ∙ ap (position_or_len is_due) asked_standings;
+          few_rows = k.few_rows;
+          few_asks = omega arith;
+          small = k.small;
+          row_room = k.row_room;
+          ask_room = omega arith;
+          spare = omega arith;
+        })
+
+  -- ---- an ask that settles, at its place
+  module _ (object place : ℕ) (settling : Settling) (asked : position (nat_eq object) (ask_objects (standings spots requests)) ≡ Some place) where
+    abbrev pub settled : Request
+    settled = record { object = object; settling = Some settling }
+
+    written_set : standings spots (set requests place settled) ≡ set (standings spots requests) place (standing spots settled)
+    written_set = map-set (standing spots) requests place settled
+
+    pub settle_shown : listed room spots rows (set requests place settled)
+        ≡ (let list : ObjectList = record { room = room; rows = rows; asks = settled_asks object settling (standings spots requests) } in list)
+    settle_shown =
+        let at = request_at spots requests object place asked in
+        let turned : standing spots settled ≡ record (standing spots at.request) { settling = Some settling } =
+        ap (λ o. let request : Request = record { object = o; settling = Some settling } in standing spots request) at.same in
+        list_with room rows _ _ (written_set ∙ ap (set (standings spots requests) place) turned
+        ∙ set_change object (λ ask. record ask { settling = Some settling }) (standings spots requests) place (standing spots at.request) k.distinct at.there at.same)
+
+    pub settle_passed : cursor ≤ position_or_len is_due (standings spots (set requests place settled))
+    settle_passed = after_set cursor (standings spots requests) (standings spots (set requests place settled)) place (standing spots settled) k.cursor (settled_not_due (standing spots settled) settling) written_set
+
+    pub keeps_settled : (tops2 : List (Option ℕ)) (next : ℕ) → tops2 ≡ set tops place (open_grade (standing spots settled))
+        → next ≡ position_or_len is_due (standings spots (set requests place settled))
+        → KeepsObjects (listed room spots rows (set requests place settled)) spots tops2 next row_capacity ask_capacity
+    keeps_settled tops2 next written at =
+        let here = request_at spots requests object place asked in
+        let within : place < length (standings spots requests) = subst (λ n. place < n) (sym many) (asked_within spots requests object place asked) in
+        let there : slice_get (ask_objects (standings spots requests)) place ≡ Some object =
+        slice_get-map (λ (ask : Ask). ask.object) (standings spots requests) place ∙ ap (option_map (λ (ask : Ask). ask.object)) here.there ∙ ap (λ o. Some o) (sym here.same) in
+        let stay : ask_objects (set (standings spots requests) place (standing spots settled)) ≡ ask_objects (standings spots requests) =
+        map-set (λ (ask : Ask). ask.object) (standings spots requests) place (standing spots settled) ∙ set_same (ask_objects (standings spots requests)) place object there in
+        let size = length-set (standings spots requests) place (standing spots settled) in
+        let few = k.few_asks in
+        let had = k.spare in
+        subst (λ (os : List Ask). KeepsObjects (record { room = room; rows = rows; asks = os }) spots tops2 next row_capacity ask_capacity) (sym written_set) (record {
+          sorted = k.sorted;
+          placed = λ other. k.placed other ∙ ap (position (nat_eq other)) (sym stay);
+          distinct = subst (AllPairs (λ (one : ℕ) (other : ℕ). one ≢ other)) (sym stay) k.distinct;
+          stands = written ∙ stands_set room (standings spots requests) place (standing spots settled) tops k.stands within;
+          cursor = at ∙ ap (position_or_len is_due) written_set;
+          few_rows = k.few_rows;
+          few_asks = omega arith;
+          small = k.small;
+          row_room = k.row_room;
+          ask_room = k.ask_room;
+          spare = omega arith;
+        })

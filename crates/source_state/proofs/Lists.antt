@@ -23,12 +23,6 @@ eqb_same n = elim (eqb_tells n n) [ inl t ↦ t.0 | inr f ↦ absurd (f.1 refl) 
 pub eqb_other : (m n : ℕ) → (m ≡ n → ⊥) → (m == n) ≡ false
 eqb_other m n apart = elim (eqb_tells m n) [ inl t ↦ absurd (apart t.1) | inr f ↦ f.0 ]
 
-pub eqb_swap : (m n : ℕ) → (m == n) ≡ (n == m)
-eqb_swap m n = elim (eqb_tells m n) [
-  | inl t ↦ t.0 ∙ sym (subst (λ k. (n == k) ≡ true) (sym t.1) (eqb_same n))
-  | inr f ↦ f.0 ∙ sym (eqb_other n m (λ e. f.1 (sym e)))
-]
-
 -- the first place of a mapped list
 place_map : {X Y : Type 0} (p : Y → Bool) (f : X → Y) (xs : List X) → position_or_len p (map f xs) ≡ position_or_len (λ x. p (f x)) xs
 place_map p f [] = refl

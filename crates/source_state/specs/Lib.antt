@@ -1,8 +1,6 @@
-pub mod Grades
-pub mod Nodes
 pub mod Log
 pub mod Asks
-pub mod LogKeeping
+pub mod ObjectKeeping
 pub mod State
 pub mod Events
 pub mod Looking

@@ -7,10 +7,9 @@ ghost use Rattle.topk_theory.specs.Bounds.{grade_among};
 ghost use Rattle.source_state.specs.State.{opened, asks_of, asked_in, asked_as, first_pending, fails_of, fault_by_grades, row_fault, settle, IsSound, SettlesWell};
 ghost use Rattle.source_state.specs.Events.{counted};
 
-use super::asks::Asks;
 use super::entry::{Asked, LogEntry, Settling, SourceFault};
 use super::event::{Applied, Event};
-use super::kept_rows::KeptRows;
+use super::objects::Objects;
 use ranked_list::{PageRows, Row};
 use source_api::FailKind;
 use std::alloc::Global;
@@ -38,8 +37,7 @@ struct Kept {
     count: u32,
     want: u32,
     log: Vec<LogEntry>,
-    rows: KeptRows,
-    asks: Asks,
+    objects: Objects,
     fault: Option<SourceFault>,
     tally: Tally,
     last_fail: Option<FailKind>,
@@ -130,15 +128,13 @@ impl SourceState {
         let Ok(log) = Vec::with_capacity(alloc, 2 * count as usize + 1) else {
             return Err(Memory);
         };
-        let rows = KeptRows::make(alloc, count)?;
-        let asks = Asks::make(alloc, count)?;
+        let objects = Objects::make(alloc, count)?;
         let held = Kept {
             list,
             count,
             want: 0,
             log,
-            rows,
-            asks,
+            objects,
             fault: None,
             tally: Tally {
                 failed: 0,
@@ -161,7 +157,8 @@ impl SourceState {
     /// A move tells of two versions that differ; it has an object whose ask is pending, or it comes where no row fault stands and a
     /// row is missing.
     ///
-    /// *Cost*: a look-up or two and at most the logarithm of the asks, for each row of a page. Takes no memory.
+    /// *Cost*: a look-up or two and at most the logarithm of the asks, for each row of a page; a pass over the asks for the row that a good
+    /// grade is above. Takes no memory.
     pub fn apply(&mut self, event: Event) -> Applied
         requires { MayCome self.old event }
         ensures state { self.new ≡ after self.old event }
@@ -203,8 +200,7 @@ impl SourceState {
         ensures sound { IsSound self.new }
     {
         let kept = &mut *self.kept;
-        let is_held = kept.rows.grade(object).is_some();
-        kept.asks.add(object, is_held);
+        kept.objects.add(object);
         kept.paused = false;
     }
 
@@ -236,8 +232,8 @@ impl SourceState {
     fn settle(&self, object: u32, grade: u32) -> Settling
         ensures { result ≡ settle (rows_in self.now.log) object grade }
     {
-        let bottom = self.kept.rows.bottom();
-        match self.kept.rows.grade(object) {
+        let bottom = self.kept.objects.bottom();
+        match self.kept.objects.grade(object) {
             Some(sorted) if sorted == grade => Settling::Graded(grade),
             Some(sorted) => Settling::Bad(SourceFault::Clash {
                 object,
@@ -262,7 +258,7 @@ impl SourceState {
         ensures sound { IsSound self.new }
     {
         let kept = &mut *self.kept;
-        kept.asks.settle(object, settling);
+        kept.objects.settle(object, settling);
         add_entry(&mut kept.log, LogEntry::Settled { object, settling });
     }
 
@@ -308,7 +304,7 @@ impl SourceState {
     {
         SourceFault::ShortList {
             stated: self.kept.count,
-            got: self.kept.rows.len(),
+            got: self.kept.objects.rows(),
         }
     }
 
@@ -339,24 +335,24 @@ impl SourceState {
         ensures { result ≡ row_fault (rows_in self.now.log) (asks_of self.now) row }
     {
         let kept = &*self.kept;
-        let bottom = kept.rows.bottom();
+        let bottom = kept.objects.bottom();
         if row.grade > TOP_GRADE {
             return Some(SourceFault::TooHigh {
-                place: kept.rows.len() + 1,
+                place: kept.objects.rows() + 1,
                 grade: row.grade,
             });
         }
         if row.grade > bottom {
             return Some(SourceFault::OutOfOrder {
-                place: kept.rows.len() + 1,
+                place: kept.objects.rows() + 1,
                 before: bottom,
                 after: row.grade,
             });
         }
-        if kept.rows.grade(row.object).is_some() {
+        if kept.objects.grade(row.object).is_some() {
             return Some(SourceFault::Repeated {
                 object: row.object,
-                place: kept.rows.len() + 1,
+                place: kept.objects.rows() + 1,
             });
         }
         self.fault_by_grades(row)
@@ -366,7 +362,7 @@ impl SourceState {
     fn fault_by_grades(&self, row: Row) -> Option<SourceFault>
         ensures { result ≡ fault_by_grades (asks_of self.now) row }
     {
-        if let Some(ask) = self.kept.asks.ask(row.object) {
+        if let Some(ask) = self.kept.objects.ask(row.object) {
             if let Some(random) = ask.grade() {
                 if random != row.grade {
                     return Some(SourceFault::Clash {
@@ -377,7 +373,7 @@ impl SourceState {
                 }
             }
         }
-        let above = self.kept.asks.first_above(row.grade)?;
+        let above = self.kept.objects.first_above(row.grade)?;
         Some(SourceFault::Above {
             object: above.object,
             grade: above.grade,
@@ -393,8 +389,7 @@ impl SourceState {
         ensures sound { IsSound self.new }
     {
         let kept = &mut *self.kept;
-        kept.asks.hold(row.object);
-        kept.rows.push(row);
+        kept.objects.push(row);
         add_entry(&mut kept.log, LogEntry::Kept(row));
     }
 
@@ -421,21 +416,21 @@ impl SourceState {
     pub fn row(&self, place: u32) -> Option<Row>
         ensures { result ≡ slice_get (rows_in self.now.log) place }
     {
-        self.kept.rows.get(place)
+        self.kept.objects.row(place)
     }
 
     /// How many rows are kept.
     pub fn rows(&self) -> u32
         ensures { result ≡ length (rows_in self.now.log) }
     {
-        self.kept.rows.len()
+        self.kept.objects.rows()
     }
 
     /// What became of the ask of an object, or None where it wasn't asked.
     pub fn asked(&self, object: u32) -> Option<Asked>
         ensures { result ≡ asked_in self.now object }
     {
-        let ask = self.kept.asks.ask(object)?;
+        let ask = self.kept.objects.ask(object)?;
         Some(asked_as(ask.settling))
     }
 
@@ -444,14 +439,14 @@ impl SourceState {
         ensures asks { result ≡ length self.now.asks }
         ensures sound { IsSound self.now }
     {
-        self.kept.asks.len()
+        self.kept.objects.asks()
     }
 
     /// The first object, in the order of asking, whose ask is pending and that the rows don't hold.
     pub fn first_pending(&self) -> Option<u32>
         ensures { result ≡ first_pending self.now }
     {
-        let ask = self.kept.asks.first_due()?;
+        let ask = self.kept.objects.first_due()?;
         Some(ask.object)
     }
 
@@ -505,6 +500,6 @@ impl SourceState {
     pub(crate) fn grade_in_rows(&self, object: u32) -> Option<u32>
         ensures { result ≡ grade_among (rows_in self.now.log) object }
     {
-        self.kept.rows.grade(object)
+        self.kept.objects.grade(object)
     }
 }

@@ -1,4 +1,4 @@
-use Rattle.std.proofs.Common.{◌≡◌, ◌<◌, None, length, is_some, sym, ap, subst, ◌∙◌}
+use Rattle.std.proofs.Common.{◌≡◌, ◌<◌, None, length, sym, ap, subst, ◌∙◌}
 use Rattle.turn_lock.specs.Facts.{FactsGrow}
 use Rattle.source_state.specs.State.{State, asked_in, facts_of}
 use Rattle.source_state.specs.Events.{with_ask}
@@ -9,20 +9,20 @@ use Rattle.source_state.proofs.state.SourceState.add_ask.Goals as goal
 
 pub add-requires : goal.add-requires
 add-requires c =
-    ask_room _ c.deref_mut-kept.result.now.rows c.deref_mut-kept.result.now.asks c.deref_mut-kept.result.now.fault _ c.args.object (subst KeepsFields (sym c.deref_mut-kept.ensures.value) c.self.invariant)
+    ask_room _ c.deref_mut-kept.result.now.objects c.deref_mut-kept.result.now.fault _ c.args.object (subst KeepsFields (sym c.deref_mut-kept.ensures.value) c.self.invariant)
     (subst (λ (s : State). asked_in s c.args.object ≡ None → length s.asks < s.count) (sym (ap shown_by c.deref_mut-kept.ensures.value ∙ c.self.view_is)) c.requires)
 
 pub invariant_of-self : goal.invariant_of-self
 invariant_of-self c =
-    (state_ask _ c.deref_mut-kept.result.now.rows c.deref_mut-kept.result.now.asks c.add.new.self c.deref_mut-kept.result.now.fault _ c.args.object c.is_some-is_held.result (subst KeepsFields (sym c.deref_mut-kept.ensures.value) c.self.invariant)
+    (state_ask _ c.deref_mut-kept.result.now.objects c.add.new.self c.deref_mut-kept.result.now.fault _ c.args.object (subst KeepsFields (sym c.deref_mut-kept.ensures.value) c.self.invariant)
     (subst (λ (s : State). asked_in s c.args.object ≡ None → length s.asks < s.count) (sym (ap shown_by c.deref_mut-kept.ensures.value ∙ c.self.view_is)) c.requires)
-    (c.is_some-is_held.ensures ∙ ap is_some c.grade.ensures) c.add.ensures).keeps
+    c.add.ensures).keeps
 
 pub returns-clause-state : goal.returns-clause-state
 returns-clause-state c =
-    (state_ask _ c.deref_mut-kept.result.now.rows c.deref_mut-kept.result.now.asks c.add.new.self c.deref_mut-kept.result.now.fault _ c.args.object c.is_some-is_held.result (subst KeepsFields (sym c.deref_mut-kept.ensures.value) c.self.invariant)
+    (state_ask _ c.deref_mut-kept.result.now.objects c.add.new.self c.deref_mut-kept.result.now.fault _ c.args.object (subst KeepsFields (sym c.deref_mut-kept.ensures.value) c.self.invariant)
     (subst (λ (s : State). asked_in s c.args.object ≡ None → length s.asks < s.count) (sym (ap shown_by c.deref_mut-kept.ensures.value ∙ c.self.view_is)) c.requires)
-    (c.is_some-is_held.ensures ∙ ap is_some c.grade.ensures) c.add.ensures).same
+    c.add.ensures).same
     ∙ ap (λ (s : State). with_ask s c.args.object) (ap shown_by c.deref_mut-kept.ensures.value ∙ c.self.view_is)
 
 pub returns-clause-grows : goal.returns-clause-grows
@@ -30,6 +30,6 @@ returns-clause-grows c = subst (λ (t : State). FactsGrow (facts_of c.args.self.
 
 pub returns-clause-sound : goal.returns-clause-sound
 returns-clause-sound c =
-    (state_ask _ c.deref_mut-kept.result.now.rows c.deref_mut-kept.result.now.asks c.add.new.self c.deref_mut-kept.result.now.fault _ c.args.object c.is_some-is_held.result (subst KeepsFields (sym c.deref_mut-kept.ensures.value) c.self.invariant)
+    (state_ask _ c.deref_mut-kept.result.now.objects c.add.new.self c.deref_mut-kept.result.now.fault _ c.args.object (subst KeepsFields (sym c.deref_mut-kept.ensures.value) c.self.invariant)
     (subst (λ (s : State). asked_in s c.args.object ≡ None → length s.asks < s.count) (sym (ap shown_by c.deref_mut-kept.ensures.value ∙ c.self.view_is)) c.requires)
-    (c.is_some-is_held.ensures ∙ ap is_some c.grade.ensures) c.add.ensures).keeps.sound
+    c.add.ensures).keeps.sound

@@ -5,25 +5,25 @@ use Rattle.source_state.specs.Log.{rows_in}
 use Rattle.source_state.specs.State.{State, asks_of, row_fault}
 use Rattle.source_state.specs.Events.{logged}
 use Rattle.source_state.specs.Keeping.{shown_by, KeepsFields}
-use Rattle.source_state.specs.LogKeeping.{RowList}
+use Rattle.source_state.specs.ObjectKeeping.{ObjectList}
 use Rattle.source_state.proofs.Sound.{follows, sound_row}
 use Rattle.source_state.proofs.Stepping.{state_row, entry_room}
 use Rattle.source_state.proofs.state.SourceState.add_row.Goals as goal
 
 pub push-requires-clause-absent : goal.push-requires-clause-absent
 push-requires-clause-absent c =
-    subst (λ (list : RowList). grade_among list.rows c.args.row.object ≡ None) (sym (subst KeepsFields (sym c.deref_mut-kept.ensures.value) c.self.invariant).rows)
+    subst (λ (list : ObjectList). grade_among list.rows c.args.row.object ≡ None) (sym (subst KeepsFields (sym c.deref_mut-kept.ensures.value) c.self.invariant).objects)
     (follows _ _ c.args.row (subst (λ (s : State). row_fault (rows_in s.log) (asks_of s) c.args.row ≡ None) (sym (ap shown_by c.deref_mut-kept.ensures.value ∙ c.self.view_is)) c.requires.sound)).absent
 
 pub push-requires-clause-room : goal.push-requires-clause-room
 push-requires-clause-room c =
-    subst (λ (list : RowList). length list.rows < list.room) (sym (subst KeepsFields (sym c.deref_mut-kept.ensures.value) c.self.invariant).rows)
+    subst (λ (list : ObjectList). length list.rows < list.room) (sym (subst KeepsFields (sym c.deref_mut-kept.ensures.value) c.self.invariant).objects)
     (subst (λ (s : State). length (rows_in s.log) < s.count) (sym (ap shown_by c.deref_mut-kept.ensures.value ∙ c.self.view_is)) c.requires.room)
 
 pub add_entry-requires : goal.add_entry-requires
 add_entry-requires c =
     let room : length c.deref_mut-kept.result.now.log.items < vec_capacity c.deref_mut-kept.result.now.log =
-    entry_room _ (Kept c.args.row) c.deref_mut-kept.result.now.rows c.deref_mut-kept.result.now.asks c.deref_mut-kept.result.now.fault _ (subst KeepsFields (sym c.deref_mut-kept.ensures.value) c.self.invariant)
+    entry_room _ (Kept c.args.row) c.deref_mut-kept.result.now.objects c.deref_mut-kept.result.now.fault _ (subst KeepsFields (sym c.deref_mut-kept.ensures.value) c.self.invariant)
     (sound_row _ c.args.row (subst KeepsFields (sym c.deref_mut-kept.ensures.value) c.self.invariant).sound
     (subst (λ (s : State). length (rows_in s.log) < s.count) (sym (ap shown_by c.deref_mut-kept.ensures.value ∙ c.self.view_is)) c.requires.room)
     (subst (λ (s : State). row_fault (rows_in s.log) (asks_of s) c.args.row ≡ None) (sym (ap shown_by c.deref_mut-kept.ensures.value ∙ c.self.view_is)) c.requires.sound)) in
@@ -31,22 +31,22 @@ add_entry-requires c =
 
 pub invariant_of-self : goal.invariant_of-self
 invariant_of-self c =
-    (state_row _ c.deref_mut-kept.result.now.rows c.push.new.self c.deref_mut-kept.result.now.asks c.hold.new.self c.deref_mut-kept.result.now.fault _ _ c.args.row c.add_entry.new.log.items (subst KeepsFields (sym c.deref_mut-kept.ensures.value) c.self.invariant)
+    (state_row _ c.deref_mut-kept.result.now.objects c.push.new.self c.deref_mut-kept.result.now.fault _ _ c.args.row c.add_entry.new.log.items (subst KeepsFields (sym c.deref_mut-kept.ensures.value) c.self.invariant)
     (subst (λ (s : State). length (rows_in s.log) < s.count) (sym (ap shown_by c.deref_mut-kept.ensures.value ∙ c.self.view_is)) c.requires.room)
     (subst (λ (s : State). row_fault (rows_in s.log) (asks_of s) c.args.row ≡ None) (sym (ap shown_by c.deref_mut-kept.ensures.value ∙ c.self.view_is)) c.requires.sound)
-    c.push.ensures c.hold.ensures c.add_entry.ensures.items c.add_entry.ensures.capacity).keeps
+    c.push.ensures c.add_entry.ensures.items c.add_entry.ensures.capacity).keeps
 
 pub returns-clause-state : goal.returns-clause-state
 returns-clause-state c =
-    (state_row _ c.deref_mut-kept.result.now.rows c.push.new.self c.deref_mut-kept.result.now.asks c.hold.new.self c.deref_mut-kept.result.now.fault _ _ c.args.row c.add_entry.new.log.items (subst KeepsFields (sym c.deref_mut-kept.ensures.value) c.self.invariant)
+    (state_row _ c.deref_mut-kept.result.now.objects c.push.new.self c.deref_mut-kept.result.now.fault _ _ c.args.row c.add_entry.new.log.items (subst KeepsFields (sym c.deref_mut-kept.ensures.value) c.self.invariant)
     (subst (λ (s : State). length (rows_in s.log) < s.count) (sym (ap shown_by c.deref_mut-kept.ensures.value ∙ c.self.view_is)) c.requires.room)
     (subst (λ (s : State). row_fault (rows_in s.log) (asks_of s) c.args.row ≡ None) (sym (ap shown_by c.deref_mut-kept.ensures.value ∙ c.self.view_is)) c.requires.sound)
-    c.push.ensures c.hold.ensures c.add_entry.ensures.items c.add_entry.ensures.capacity).same
+    c.push.ensures c.add_entry.ensures.items c.add_entry.ensures.capacity).same
     ∙ ap (λ (s : State). logged s (Kept c.args.row)) (ap shown_by c.deref_mut-kept.ensures.value ∙ c.self.view_is)
 
 pub returns-clause-sound : goal.returns-clause-sound
 returns-clause-sound c =
-    (state_row _ c.deref_mut-kept.result.now.rows c.push.new.self c.deref_mut-kept.result.now.asks c.hold.new.self c.deref_mut-kept.result.now.fault _ _ c.args.row c.add_entry.new.log.items (subst KeepsFields (sym c.deref_mut-kept.ensures.value) c.self.invariant)
+    (state_row _ c.deref_mut-kept.result.now.objects c.push.new.self c.deref_mut-kept.result.now.fault _ _ c.args.row c.add_entry.new.log.items (subst KeepsFields (sym c.deref_mut-kept.ensures.value) c.self.invariant)
     (subst (λ (s : State). length (rows_in s.log) < s.count) (sym (ap shown_by c.deref_mut-kept.ensures.value ∙ c.self.view_is)) c.requires.room)
     (subst (λ (s : State). row_fault (rows_in s.log) (asks_of s) c.args.row ≡ None) (sym (ap shown_by c.deref_mut-kept.ensures.value ∙ c.self.view_is)) c.requires.sound)
-    c.push.ensures c.hold.ensures c.add_entry.ensures.items c.add_entry.ensures.capacity).keeps.sound
+    c.push.ensures c.add_entry.ensures.items c.add_entry.ensures.capacity).keeps.sound

@@ -14,7 +14,7 @@ use Rattle.source_state.proofs.state.SourceState.add_settling.Goals as goal
 pub add_entry-requires : goal.add_entry-requires
 add_entry-requires c =
     let room : length c.deref_mut-kept.result.now.log.items < vec_capacity c.deref_mut-kept.result.now.log =
-    entry_room _ (Settled c.args.object c.args.settling) c.deref_mut-kept.result.now.rows c.deref_mut-kept.result.now.asks c.deref_mut-kept.result.now.fault _ (subst KeepsFields (sym c.deref_mut-kept.ensures.value) c.self.invariant)
+    entry_room _ (Settled c.args.object c.args.settling) c.deref_mut-kept.result.now.objects c.deref_mut-kept.result.now.fault _ (subst KeepsFields (sym c.deref_mut-kept.ensures.value) c.self.invariant)
     (sound_settling _ c.args.object c.args.settling (subst KeepsFields (sym c.deref_mut-kept.ensures.value) c.self.invariant).sound
     (subst (λ (s : State). asked_in s c.args.object ≡ Some Pending) (sym (ap shown_by c.deref_mut-kept.ensures.value ∙ c.self.view_is)) c.requires.pending)
     (subst (λ (s : State). SettlesWell (rows_in s.log) c.args.object c.args.settling) (sym (ap shown_by c.deref_mut-kept.ensures.value ∙ c.self.view_is)) c.requires.fits)) in
@@ -22,14 +22,14 @@ add_entry-requires c =
 
 pub invariant_of-self : goal.invariant_of-self
 invariant_of-self c =
-    (state_settling _ c.deref_mut-kept.result.now.rows c.deref_mut-kept.result.now.asks c.settle.new.self c.deref_mut-kept.result.now.fault _ _ c.args.object c.args.settling c.add_entry.new.log.items (subst KeepsFields (sym c.deref_mut-kept.ensures.value) c.self.invariant)
+    (state_settling _ c.deref_mut-kept.result.now.objects c.settle.new.self c.deref_mut-kept.result.now.fault _ _ c.args.object c.args.settling c.add_entry.new.log.items (subst KeepsFields (sym c.deref_mut-kept.ensures.value) c.self.invariant)
     (subst (λ (s : State). asked_in s c.args.object ≡ Some Pending) (sym (ap shown_by c.deref_mut-kept.ensures.value ∙ c.self.view_is)) c.requires.pending)
     (subst (λ (s : State). SettlesWell (rows_in s.log) c.args.object c.args.settling) (sym (ap shown_by c.deref_mut-kept.ensures.value ∙ c.self.view_is)) c.requires.fits)
     c.settle.ensures c.add_entry.ensures.items c.add_entry.ensures.capacity).keeps
 
 pub returns-clause-state : goal.returns-clause-state
 returns-clause-state c =
-    (state_settling _ c.deref_mut-kept.result.now.rows c.deref_mut-kept.result.now.asks c.settle.new.self c.deref_mut-kept.result.now.fault _ _ c.args.object c.args.settling c.add_entry.new.log.items (subst KeepsFields (sym c.deref_mut-kept.ensures.value) c.self.invariant)
+    (state_settling _ c.deref_mut-kept.result.now.objects c.settle.new.self c.deref_mut-kept.result.now.fault _ _ c.args.object c.args.settling c.add_entry.new.log.items (subst KeepsFields (sym c.deref_mut-kept.ensures.value) c.self.invariant)
     (subst (λ (s : State). asked_in s c.args.object ≡ Some Pending) (sym (ap shown_by c.deref_mut-kept.ensures.value ∙ c.self.view_is)) c.requires.pending)
     (subst (λ (s : State). SettlesWell (rows_in s.log) c.args.object c.args.settling) (sym (ap shown_by c.deref_mut-kept.ensures.value ∙ c.self.view_is)) c.requires.fits)
     c.settle.ensures c.add_entry.ensures.items c.add_entry.ensures.capacity).same
@@ -40,7 +40,7 @@ returns-clause-grows c = subst (λ (t : State). FactsGrow (facts_of c.args.self.
 
 pub returns-clause-sound : goal.returns-clause-sound
 returns-clause-sound c =
-    (state_settling _ c.deref_mut-kept.result.now.rows c.deref_mut-kept.result.now.asks c.settle.new.self c.deref_mut-kept.result.now.fault _ _ c.args.object c.args.settling c.add_entry.new.log.items (subst KeepsFields (sym c.deref_mut-kept.ensures.value) c.self.invariant)
+    (state_settling _ c.deref_mut-kept.result.now.objects c.settle.new.self c.deref_mut-kept.result.now.fault _ _ c.args.object c.args.settling c.add_entry.new.log.items (subst KeepsFields (sym c.deref_mut-kept.ensures.value) c.self.invariant)
     (subst (λ (s : State). asked_in s c.args.object ≡ Some Pending) (sym (ap shown_by c.deref_mut-kept.ensures.value ∙ c.self.view_is)) c.requires.pending)
     (subst (λ (s : State). SettlesWell (rows_in s.log) c.args.object c.args.settling) (sym (ap shown_by c.deref_mut-kept.ensures.value ∙ c.self.view_is)) c.requires.fits)
     c.settle.ensures c.add_entry.ensures.items c.add_entry.ensures.capacity).keeps.sound
