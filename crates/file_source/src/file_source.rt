@@ -9,10 +9,10 @@ ghost use Rattle.file_source.specs.FileAnswers.{AnswersPage, AnswersGrade, after
 use super::Memory;
 use super::grades::{grade_among, grades_of};
 use super::list_file::{Reading, read_list};
+use containers::ObjectMap;
 use ranked_list::Row;
 use source_api::{Counts, FailKind, Source, Trouble, part_of};
 use std::alloc::Global;
-use std::collections::HashMap;
 use std::marker::Model;
 
 /// A list file that was read whole.
@@ -23,8 +23,8 @@ use std::marker::Model;
 #[derive(Drop)]
 pub struct FileSource {
     records: Vec<Option<Row>>,
-    /// The grades of objects by hash, once one was asked for.
-    grades: Option<HashMap<u32, u32>>,
+    /// The grades by object, once one was asked for.
+    grades: Option<ObjectMap<u32>>,
     broken: bool,
     counts: Counts,
 }
@@ -85,7 +85,7 @@ impl FileSource {
         ensures { result ≡ first_grade (rows_among self.now.records) object }
     {
         match &self.grades {
-            Some(grades) => grades.get(&object).copied(),
+            Some(grades) => grades.get(object),
             None => grade_among(&self.records, object),
         }
     }
@@ -139,8 +139,7 @@ impl Source for FileSource {
     }
 
     /// The grade of the first row with the object. Where there is none the answer is garbled if some
-    /// record is no row. The first call makes an index of the objects by hash; where memory is refused for it the records are looked
-    /// through.
+    /// record is no row. The first call makes an index of the objects; where memory is refused for it the records are looked through.
     fn grade(&mut self, alloc: Global, object: u32) -> Result<Option<u32>, Trouble>
         ensures answer { AnswersGrade self.old.records object result }
         ensures after { self.new ≡ after_grade result self.old }

@@ -1,24 +1,25 @@
 //! The grades of objects in the records of a list file.
 
-ghost use Rattle.std.specs.Prelude.{◌≡◌, ℕ, nat_eq, IfOk, OnOk};
-ghost use Rattle.std.specs.HashMap.{get};
+ghost use Rattle.std.specs.Prelude.{◌≡◌, ℕ, IfOk, OnOk};
+ghost use Rattle.containers.specs.Values.{value_of};
 ghost use Rattle.source_api.specs.Told.{first_grade};
 ghost use Rattle.file_source.specs.ListFile.{rows_among};
 ghost use Rattle.file_source.specs.Taking.{kept_record};
 
 use super::Memory;
+use containers::ObjectMap;
 use ranked_list::Row;
-use source_api::keep_first;
 use std::alloc::Global;
-use std::collections::HashMap;
+use topk_base::MAX_OBJECTS;
 
-/// The grade of each object, by its first row.
+/// The grade of each object, by its first row. Objects below twice the number of records are found in a table.
 ///
-/// *Cost*: a look-up by hash for each record.
-pub(crate) fn grades_of(alloc: Global, records: &[Option<Row>]) -> Result<HashMap<u32, u32>, Memory>
-    ensures { IfOk result (λ grades. (object : ℕ) → get nat_eq grades object ≡ first_grade (rows_among records.now) object) }
+/// *Cost*: a look-up of an `ObjectMap` for each record.
+pub(crate) fn grades_of(alloc: Global, records: &[Option<Row>]) -> Result<ObjectMap<u32>, Memory>
+    ensures { IfOk result (λ grades. (object : ℕ) → value_of grades object ≡ first_grade (rows_among records.now) object) }
 {
-    let mut grades = HashMap::with_capacity(alloc, records.len())?;
+    let mut grades = ObjectMap::make(alloc);
+    grades.widen(2 * records.len().min(MAX_OBJECTS as usize) as u32)?;
     for record in records {
         keep_record(&mut grades, *record)?;
     }
@@ -26,13 +27,16 @@ pub(crate) fn grades_of(alloc: Global, records: &[Option<Row>]) -> Result<HashMa
 }
 
 /// Keeps the grade of a record's object, unless one is kept or the record is no row.
-fn keep_record(grades: &mut HashMap<u32, u32>, row: Option<Row>) -> Result<(), Memory>
-    ensures { OnOk result ((object : ℕ) → get nat_eq grades.new object ≡ kept_record (get nat_eq grades.old object) row object) }
+fn keep_record(grades: &mut ObjectMap<u32>, row: Option<Row>) -> Result<(), Memory>
+    ensures { OnOk result ((object : ℕ) → value_of grades.new object ≡ kept_record (value_of grades.old object) row object) }
 {
-    match row {
-        Some(row) => keep_first(grades, row),
-        None => Ok(()),
+    let Some(row) = row else {
+        return Ok(());
+    };
+    if grades.get(row.object).is_none() {
+        grades.insert(row.object, row.grade)?;
     }
+    Ok(())
 }
 
 /// The grade of an object, by its first row. Takes no memory.
