@@ -10,7 +10,7 @@ use std::alloc::Global;
 use std::marker::Model;
 
 /// The most grades that are remembered of a source.
-pub const MOST_GRADES: u32 = 8_192;
+pub const MOST_GRADES: u32 = 65_536;
 
 /// The number of no object.
 const NOBODY: u32 = 4_294_967_295;
@@ -38,12 +38,12 @@ impl Model for Grades {
 }
 
 impl Grades {
-    /// None, with room for those of so many objects, at most `MOST_GRADES`. Only this call takes memory. What it takes is first written to when
-    /// the first grade is remembered.
+    /// None, with a power of two of places for those of so many objects, at most `MOST_GRADES`. Only this call takes memory. What it takes is
+    /// first written to when the first grade is remembered.
     pub fn make(alloc: Global, count: u32) -> Result<Grades, Memory>
         ensures { IfOk result (λ grades. grades ≡ []) }
     {
-        let room = count.min(MOST_GRADES);
+        let room = count.clamp(1, MOST_GRADES).next_power_of_two();
         let Ok(places) = Vec::with_capacity(alloc, room as usize) else {
             return Err(Memory);
         };
@@ -62,7 +62,7 @@ impl Grades {
         if self.places.is_empty() {
             return None;
         }
-        let row = self.places[object as usize % self.places.len()];
+        let row = self.places[object as usize & (self.places.len() - 1)];
         if row.object == object && object != NOBODY {
             Some(row.grade)
         } else {
@@ -95,7 +95,7 @@ impl Grades {
         if self.places.is_empty() {
             return;
         }
-        let place = row.object as usize % self.places.len();
+        let place = row.object as usize & (self.places.len() - 1);
         self.places[place] = row;
     }
 

@@ -195,8 +195,8 @@ impl Pool {
     /// Splits a pass off, which gets one part of each source. It knows as much, did nothing yet, waits for nothing, and
     /// remembers nothing.
     ///
-    /// *Cost*: one split of a pass for each source, and the memory of the new pass, with room for 256 rows of each source and 8 bytes for each
-    /// of its objects, up to `MOST_GRADES`, which are first written to when a grade is remembered.
+    /// *Cost*: one split of a pass for each source, and the memory of the new pass, with room for 256 rows of each source and 8 to 16 bytes for
+    /// each of its objects, up to `MOST_GRADES` of them, which are first written to when a grade is remembered.
     pub fn split(&self, alloc: Global, pass: &mut PoolPass) -> Result<PoolPass, Memory>
         requires own { IsPassOf self.now pass.old }
         requires parts { MaySplit self.now pass.old }

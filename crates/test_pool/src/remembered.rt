@@ -88,11 +88,11 @@ fn are_so(alloc: Global) -> Option<[bool; 5]> {
         return None;
     };
     settle(&mut state, 7, 500);
-    settle(&mut state, 8_199, 400);
+    settle(&mut state, 32_775, 400);
     ask(&mut state, 9);
     let before = remembered.answer(grade!(7));
     let first = kept(&mut remembered, &state, 7);
-    let second = kept(&mut remembered, &state, 8_199);
+    let second = kept(&mut remembered, &state, 32_775);
     let again = remembered.answer(grade!(7));
     let pending = kept(&mut remembered, &state, 9);
     drop(remembered);
