@@ -56,7 +56,7 @@ fn shown_by(answer: Look, shown: Tally) -> Tally
     }
 }
 
-/// Looks for a need in one turn, and remembers the row or the grade that is there.
+/// Looks for a need in one turn, and remembers the row that is there, or the grade where it wasn't waited for.
 fn look_in_turn(rt: &impl Wait, lock: &TurnLock<SourceState>, hold: &mut Hold, need: Need) -> Look
     requires own { IsFree lock.now hold.old.pass }
     requires need { MayLookFor hold.old.pass.1 need }
@@ -75,8 +75,9 @@ fn look_in_turn(rt: &impl Wait, lock: &TurnLock<SourceState>, hold: &mut Hold, n
     let mut state = lock.take(rt, &mut hold.pass);
     // Serves the prover alone: `count` promises that the state is sound.
     let _ = state.count();
+    let waited = hold.waiting.need.is_some();
     let answer = look_at(&mut state, &mut hold.waiting, need);
-    hold.remembered.keep(&state, need, answer);
+    hold.remembered.keep(&state, need, answer, waited);
     lock.give(&mut hold.pass, state);
     hold.shown = shown_by(answer, hold.shown);
     answer

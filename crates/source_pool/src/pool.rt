@@ -90,7 +90,7 @@ impl Pool {
     /// Looks for what a query needs of a source, by its number. A row or a grade that the pass remembers is the answer; else it looks in one
     /// turn of the source's lock, for which it may wait. The row at a depth or the grade of an object is there, or it can't be had and the
     /// fault says why, or the pass waits for it, and the source's feeder is woken. A row that is there is remembered with those below it, up to
-    /// 256, and so is a grade for which the source was asked.
+    /// 256, and so is a grade for which the source was asked, where the pass didn't wait for it.
     ///
     /// *Cost*: one read of what is remembered; or one turn of the source's lock, one `look_at` in it, a copy of up to 256 rows where a row is
     /// there, a look-up where a grade is, and a ring for the feeder where nothing is there yet. No memory, and nothing grows with what is kept.

@@ -56,13 +56,16 @@ impl Remembered {
         self.grades.clear();
     }
 
-    /// Remembers what a look at a state answered: from a needed row on the rows of the state, and a needed grade that was settled.
-    pub fn keep(&mut self, state: &SourceState, need: Need, answer: Look)
+    /// Remembers what a look at a state answered: from a needed row on the rows of the state, and a needed grade that was settled, unless it was
+    /// waited for: who waited has it.
+    pub fn keep(&mut self, state: &SourceState, need: Need, answer: Look, waited: bool)
         requires reach { IsInReach need }
         ensures rows { self.new.rows ≡ window_after answer need (rows_in state.now.log) self.old.rows }
         ensures grades { AreSettled state.now.log self.old.grades → AreSettled state.now.log self.new.grades }
     {
         self.rows.fill_after(state, need, answer);
-        self.grades.keep(state, need, answer);
+        if !waited {
+            self.grades.keep(state, need, answer);
+        }
     }
 }

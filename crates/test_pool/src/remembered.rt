@@ -27,14 +27,16 @@ macro_rules! grade {
     };
 }
 
-/// A grade that the source gave is answered without a turn once it was looked for, and so is the next one. Each pass has its own.
-const ONCE: [Step; 8] = [
+/// A grade that the source gave is answered without a turn once it was looked for again, and so is the next one. Each pass has its own.
+const ONCE: [Step; 10] = [
     Step::Look(grade!(2), Look::NotYet),
     Step::Turn(Turned::Graded { object: 2 }),
+    Step::Look(grade!(2), Look::Grade(800)),
     Step::Look(grade!(2), Look::Grade(800)),
     Step::Held(grade!(2), Look::Grade(800)),
     Step::Other(grade!(3), Look::NotYet),
     Step::Turn(Turned::Graded { object: 3 }),
+    Step::Look(grade!(3), Look::Grade(100)),
     Step::Look(grade!(3), Look::Grade(100)),
     Step::Held(grade!(3), Look::Grade(100)),
 ];
@@ -75,7 +77,7 @@ fn settle(state: &mut SourceState, object: u32, grade: u32) {
 
 /// Keeps the grade that a state has of an object, and what is remembered of it then.
 fn kept(remembered: &mut Remembered, state: &SourceState, object: u32) -> Option<Look> {
-    remembered.keep(state, grade!(object), Look::Grade(0));
+    remembered.keep(state, grade!(object), Look::Grade(0), false);
     remembered.answer(grade!(object))
 }
 
