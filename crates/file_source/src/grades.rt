@@ -12,14 +12,16 @@ use ranked_list::Row;
 use std::alloc::Global;
 use topk_base::MAX_OBJECTS;
 
-/// The grade of each object, by its first row. Objects below twice the number of records are found in a table.
+/// The grade of each object, by its first row. Objects below twice the number of records are found in a table, the others by their hash.
 ///
 /// *Cost*: a look-up of an `ObjectMap` for each record.
 pub(crate) fn grades_of(alloc: Global, records: &[Option<Row>]) -> Result<ObjectMap<u32>, Memory>
     ensures { IfOk result (λ grades. (object : ℕ) → value_of grades object ≡ first_grade (rows_among records.now) object) }
 {
+    let count = records.len().min(MAX_OBJECTS as usize) as u32;
     let mut grades = ObjectMap::make(alloc);
-    grades.widen(2 * records.len().min(MAX_OBJECTS as usize) as u32)?;
+    grades.widen(2 * count)?;
+    grades.reserve(count)?;
     for record in records {
         keep_record(&mut grades, *record)?;
     }
