@@ -20,6 +20,7 @@ pub mod Known
 pub mod Asks
 pub mod Certain
 pub mod FirstUnknown
+pub mod Comparing
 mod AskFrom
 mod Begins
 mod RoomTest

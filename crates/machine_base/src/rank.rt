@@ -29,10 +29,13 @@ impl Ord for Rank {
     ghost matches_eq = { Prim.search (comparing, rules) };
 
     fn cmp(&self, other: &Rank) -> Ordering {
-        let by_low = other.low.cmp(&self.low);
-        let by_high = other.high.cmp(&self.high);
-        let by_object = self.object.cmp(&other.object);
-        by_low.then(by_high).then(by_object)
+        if self.low != other.low {
+            return other.low.cmp(&self.low);
+        }
+        if self.high != other.high {
+            return other.high.cmp(&self.high);
+        }
+        self.object.cmp(&other.object)
     }
 }
 
