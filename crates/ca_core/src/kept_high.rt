@@ -25,9 +25,10 @@ impl Ord for KeptHigh {
     ghost matches_eq = { Prim.search (comparing, rules) };
 
     fn cmp(&self, other: &KeptHigh) -> Ordering {
-        let by_high = self.high.cmp(&other.high);
-        let by_object = other.object.cmp(&self.object);
-        by_high.then(by_object)
+        if self.high != other.high {
+            return self.high.cmp(&other.high);
+        }
+        other.object.cmp(&self.object)
     }
 }
 
