@@ -1,3 +1,4 @@
 -- Lemmas on the outcomes of lines.
 pub mod Refused
 pub mod Writable
+pub mod Proved

@@ -18,3 +18,4 @@ mod Halting
 pub mod Endings
 mod Made
 mod Foreseen
+pub mod ClaimLaws

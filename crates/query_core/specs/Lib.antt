@@ -3,5 +3,6 @@ pub mod Algorithms
 pub mod Methods
 pub mod Ready
 pub mod OneAnswer
+pub mod Claim
 pub mod Machines
 pub mod Driving

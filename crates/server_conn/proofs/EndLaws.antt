@@ -20,6 +20,7 @@ use Rattle.query_admission.specs.View.{View}
 use Rattle.server_conn.specs.Asking.{by_parts, routed, line_at, line_in, AsksAt, AsksFor}
 use Rattle.server_conn.specs.Becoming.{LineSaid}
 use Rattle.server_conn.specs.Connections.{Visit, Tells, TellsAsked, Serves, ServesHeard, SendsAnswer, Ends}
+use Rattle.server_conn.proofs.Proving.{ends_proved}
 use Rattle.wire.specs.declared.replying.ConnEnd.{ConnEnd}
 use Rattle.wire.specs.declared.replying.ConnEnd.TheVariants.{LinkFault}
 use Rattle.server_conn.specs.declared.conn.Turn.{Turn}
@@ -87,11 +88,11 @@ pub replied : (view : View) (visit : Visit) (held : Option (List ℕ)) (faults :
     → ServesHeard view heard visit.before visit.now answer
     → SendsAnswer (asks_head heard) answer held visit.held_now faults visit.write_faults_now turn → Ends view visit turn
 replied view visit held faults heard answer turn reads quiet same_held same_faults serves sends =
-    inl (
+    ends_proved view visit turn (inl (
       record { heard = heard; answer = answer; reads = reads; quiet = quiet; serves = serves },
       subst (λ (h : Option (List ℕ)). SendsAnswer (asks_head heard) answer h visit.held_now visit.write_faults visit.write_faults_now turn) same_held
           (subst (λ n. SendsAnswer (asks_head heard) answer held visit.held_now n visit.write_faults_now turn) same_faults sends),
-    )
+    ))
 
 -- a request that was refused, since its head wasn't read
 pub unheard : (view : View) (visit : Visit) (held : Option (List ℕ)) (faults mid : ℕ) (fault : WireFault) (why : Refusal) (turn : Turn)
@@ -127,11 +128,11 @@ by_test held held_now faults faults_now is_head test answer turn is sends = subs
 -- a link that failed while the request was read
 pub unread : (view : View) (visit : Visit) (turn : Turn) → turn ≡ record { end = LinkFault; moved = false } → Rose visit.read_faults visit.read_faults_now
     → visit.held_now ≡ visit.held → visit.write_faults_now ≡ visit.write_faults → visit.now ≡ visit.before → Ends view visit turn
-unread view visit turn is rose held writes pass = inr (record {
+unread view visit turn is rose held writes pass = ends_proved view visit turn (inr (record {
   end = ap (λ (t : Turn). t.end) is;
   moved = ap (λ (t : Turn). t.moved) is;
   rose = rose;
   held = held;
   writes = writes;
   pass = pass;
-})
+}))

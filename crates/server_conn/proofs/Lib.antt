@@ -2,6 +2,7 @@
 mod ListLaws
 mod PassLaws
 mod LineLaws
+mod Proving
 mod EndLaws
 mod AnswerLaws
 mod FailLaws

@@ -15,6 +15,7 @@ use Rattle.wire.specs.declared.refusal.Refusal.TheVariants.{NoMemory}
 use Rattle.query_admission.specs.View.{View}
 use Rattle.server_conn.specs.Asking.{routed, line_in}
 use Rattle.server_conn.specs.Becoming.{LineSaid, IsLineTold}
+use Rattle.server_conn.specs.Proving.{TookProved}
 use Rattle.wire.specs.declared.replying.ConnEnd.TheVariants.{LinkFault}
 use Rattle.server_conn.specs.declared.conn.Turn.{Turn}
 
@@ -94,9 +95,14 @@ pub record FailsToRead (visit : Visit) (turn : Turn) : Type 0 where
   pub writes : visit.write_faults_now ≡ visit.write_faults
   pub pass : visit.now ≡ visit.before
 
--- how a connection ends: the request was answered, and the reply written or a front of it; or the link failed while the request was read
-abbrev pub Ends : View → Visit → Turn → Type 0
-Ends view visit turn = ((served : IsVisitServed view visit) × SendsReply view visit served turn) ⊎ FailsToRead visit turn
+-- the request was answered, and the reply written or a front of it; or the link failed while the request was read
+abbrev pub EndsBy : View → Visit → Turn → Type 0
+EndsBy view visit turn = ((served : IsVisitServed view visit) × SendsReply view visit served turn) ⊎ FailsToRead visit turn
+
+-- how a connection ends, and that what was written of the query line is proved
+pub record Ends (view : View) (visit : Visit) (turn : Turn) : Type 0 where
+  pub ends : EndsBy view visit turn
+  pub proves : TookProved visit.held visit.held_now
 
 -- a head was answered and the reply written, or a front of it
 abbrev pub IsRepliedTo : View → List ℕ → List ℕ → List Hold → List Hold → Option (List ℕ) → Option (List ℕ) → ℕ → ℕ → Turn → Type 0

@@ -9,6 +9,8 @@ use Rattle.command_line.specs.Ends.{Says}
 use Rattle.command_line.specs.declared.status.Status.{Status}
 use Rattle.command_line.specs.declared.status.Status.TheVariants.{BadWords, Memory}
 use Rattle.catalog_run.proofs.RunEnding.{refused_kept}
+use Rattle.topk_top.specs.Claim.{CommandProves}
+use Rattle.topk_top.proofs.Proving.{command_proves}
 use Rattle.port_calls.specs.Ports.{Ports, KeepsPort}
 use Rattle.command_line.proofs.Ending.{read_none}
 
@@ -39,4 +41,7 @@ ends_without_memory (Some (Serve options)) c p port kept alone nothing =
 -- a call ends as its command does
 pub ends_as : (command : Option Command) (c : Call) (p : Ports) (status : Status) → command_of c.words ≡ command → CommandEnds command c p status
     → CallEnds c p status
-ends_as command c p status is ends = subst (λ o. CommandEnds o c p status) (sym is) ends
+ends_as command c p status is ends = record {
+  ends = subst (λ o. CommandEnds o c p status) (sym is) ends;
+  proves = subst (λ o. CommandProves o c status) (sym is) (command_proves command c p status ends);
+}

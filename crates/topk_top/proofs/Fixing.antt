@@ -39,7 +39,8 @@ use Rattle.cert_judge.specs.Figures.{HasItsFigures, figures_from, item_figures, 
 use Rattle.cert_judge.specs.Judging.{JudgesBy, IsJudged, TellsOfCertificate}
 use Rattle.query_core.proofs.AllFacts.{facts}
 use Rattle.query_core.proofs.Facts.{IsRunOn}
-use Rattle.topk_top.proofs.Good.{good_objects, written_back}
+use Rattle.query_core.proofs.ClaimLaws.{written_back, agrees_as}
+use Rattle.topk_top.proofs.Good.{good_objects}
 
 -- the certificate is of a transcript that fixes its answer, with its figures
 pub record IsFixedBy (c : Certificate) : Type 0 where
@@ -101,9 +102,6 @@ only_fixed c (Beaten inside outside low high counter) is h =
 items_same : (f : ℕ → Item) (items : List Item) → ((item : Item) → Contains items item → item ≡ f item.object) → items ≡ map f (item_objects items)
 items_same f [] each = refl
 items_same f (item ∷ items) each = ap₂ (λ (i : Item) (is : List Item). i ∷ is) (each item (contains_here item items)) (items_same f items (λ other c. each other (contains_there item items other c)))
-
-agrees_as : (m n k l : ℕ) (D : List (List Row)) (A : List Access) → m ≡ k → n ≡ l → Agrees m n D A → Agrees k l D A
-agrees_as m n k l D A e f h = subst (λ z. Agrees z l D A) e (subst (λ z. Agrees m z D A) f h)
 
 -- what is found of a right answer, over its query's lists of so many objects
 pub record IsHonest (q : Query) (n : ℕ) (answer : Answer) : Type 0 where

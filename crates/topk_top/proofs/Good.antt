@@ -1,10 +1,9 @@
 -- Objects that are as good as is guaranteed.
-use Rattle.std.proofs.Common.{◌≡◌, ◌≢◌, ℕ, List, length, All, AllPairs, Contains, Option, None, Some, option_map, refl}
+use Rattle.std.proofs.Common.{◌≡◌, ◌≢◌, ℕ, List, length, All, AllPairs, Contains, Option, None, Some}
 use Rattle.ranked_list.specs.declared.row.Row.{Row}
 use Rattle.topk_theory.specs.Aggregate.{objects_of}
 use Rattle.topk_theory.specs.Asked.{Asked}
 use Rattle.algorithm_theory.specs.Within.{Factor}
-use Rattle.cert_text.specs.Guarantee.{factor_of, guarantee_of}
 use Rattle.query_core.specs.Methods.{IsGoodBy}
 
 -- they are as many distinct objects of the table as were asked for
@@ -16,8 +15,3 @@ pub record AreObjects (k : ℕ) (D : List (List Row)) (Y : List ℕ) : Type 0 wh
 pub good_objects : (guarantee : Option Factor) (asked : Asked) (D : List (List Row)) (Y : List ℕ) → IsGoodBy guarantee asked D Y → AreObjects asked.k D Y
 good_objects None asked D Y good = record { sized = good.sized; distinct = good.distinct; members = good.members }
 good_objects (Some factor) asked D Y good = record { sized = good.sized; distinct = good.distinct; members = good.members }
-
--- a factor that is written as a guarantee is read as itself
-pub written_back : (factor : Option Factor) → option_map factor_of (option_map guarantee_of factor) ≡ factor
-written_back None = refl
-written_back (Some factor) = refl

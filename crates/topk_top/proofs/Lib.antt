@@ -18,6 +18,7 @@ pub mod Good
 pub mod Right
 pub mod OneOver
 -- Lemmas on what calls write.
+mod Proving
 mod Fixing
 mod Certifying
 mod AnswersFixed

@@ -27,7 +27,7 @@ use Rattle.query_admission.specs.declared.line_outcome.LineOutcome.{LineOutcome}
 use Rattle.catalog_text.specs.Catalog.{Listed as Entry}
 use Rattle.catalog_open.specs.Views.{view_over, nothing_told}
 use Rattle.topk_top.specs.Answers.{method_in, IsGoodAsPrinted, IsRightLine}
-use Rattle.topk_top.proofs.Good.{written_back}
+use Rattle.query_core.proofs.ClaimLaws.{written_back}
 use Rattle.topk_top.proofs.InOrder.{ready_method}
 use Rattle.line_outcome.specs.Outcomes.{ended_outcome, look_refusal}
 use Rattle.catalog_run.specs.Runs.{CatalogRun, IsRun, IsLineRun, AreOutcomes}

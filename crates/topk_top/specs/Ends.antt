@@ -18,6 +18,7 @@ use Rattle.command_line.specs.declared.status.Status.{Status}
 use Rattle.command_line.specs.declared.status.Status.TheVariants.{BadWords, Memory}
 use Rattle.command_line.specs.declared.status.Status.TheVariants.{WriteFault}
 use Rattle.command_line.specs.Ends.{EndsReading, EndsWriting}
+use Rattle.topk_top.specs.Claim.{Proves}
 
 -- `refused words`
 abbrev pub words_refused_text : List ℕ
@@ -42,9 +43,10 @@ CommandEnds (Some (Bulk options)) c p status = KeepsPort p × KeepsShelf c × En
 CommandEnds (Some (Node options)) c p status = LeftAlone c × EndsNode options c p status
 CommandEnds (Some (Serve options)) c p status = LeftAlone c × EndsServe options c p status
 
--- how a call ends
-abbrev pub CallEnds : Call → Ports → Status → Type 0
-CallEnds c p status = CommandEnds (command_of c.words) c p status
+-- how a call ends: as its command does, and what it wrote of query lines is proved
+pub record CallEnds (c : Call) (p : Ports) (status : Status) : Type 0 where
+  pub ends : CommandEnds (command_of c.words) c p status
+  pub proves : Proves c status
 
 -- the exit status tells how the call ended
 abbrev pub ExitsBy : Call → Ports → ℕ → Type 0

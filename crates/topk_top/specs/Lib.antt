@@ -1,4 +1,5 @@
--- How a top call ends.
+-- How a top call ends, and that what it writes is proved.
+pub mod Claim
 pub mod Ends
 -- What is read of a node's answers.
 pub mod ReadBack

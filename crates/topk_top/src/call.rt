@@ -35,6 +35,10 @@ const WORDS_REFUSED: &[u8] = b"refused words\n";
 /// served. `serve` answers queries over the lists of a catalog to the links of the port, and writes how many links it took. Both leave
 /// the input as it was, and no other command asks anything of the port. Words that are no command are answered with `refused words`.
 ///
+/// What `one` and `run` write of query lines is proved: each line of the input is refused in one line, or gets a certificate. On every table that
+/// agrees with what the certificate says was read, and there is one, that is the run of the query's algorithm, and the objects are a top k, or
+/// within the factor that is printed.
+///
 /// The queries of `run`, `bulk` and `serve` are shared out among as many threads as their options say, and each source
 /// has one more thread that reads ahead; where the system makes no thread, this one does all. These three and `node` may wait
 /// for ever; the other commands start no thread.
