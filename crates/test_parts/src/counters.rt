@@ -1,5 +1,6 @@
-//! Counters that four passes count on, and some that two passes want.
+//! Counters that four passes count on, some that two passes want, and numbers that two passes draw.
 
+use crate::draws::draw_by_two;
 use crate::drives::{count_on_four, take_by_two};
 use std::test::Fail;
 
@@ -18,5 +19,11 @@ fn no_count_is_lost(rt: HostRuntime) -> Result<(), Fail> {
 #[test]
 fn a_taken_value_is_not_taken_again(rt: HostRuntime) -> Result<(), Fail> {
     assert_eq!(rt; take_by_two(rt.alloc()), Some((true, false, true, true)));
+    Ok(())
+}
+
+#[test]
+fn each_number_is_drawn(rt: HostRuntime) -> Result<(), Fail> {
+    assert_eq!(rt; draw_by_two(&rt, rt.alloc(), 20_000), Some(20_000));
     Ok(())
 }

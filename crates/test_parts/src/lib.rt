@@ -1,10 +1,11 @@
-//! Tests of parts that stand alone: the indexed heap and the board, row by row, and the locks on threads that really run.
+//! Tests of parts that stand alone: the indexed heap and the board, row by row, and the locks and the tickets on threads that really run.
 #![tactic(auto)]
 
 #[cfg(test)]
 mod board;
 #[cfg(test)]
 mod counters;
+mod draws;
 mod drives;
 #[cfg(test)]
 mod heap;
@@ -15,6 +16,7 @@ mod readers;
 mod runs;
 mod turns;
 
+pub use draws::{draw_all, draw_by_two};
 pub use drives::{Counter, count_often, count_on_four, take_by_two};
 pub use journal::Journal;
 pub use readers::{
