@@ -1,16 +1,25 @@
 -- From what a crew did to a batch.
-use Rattle.std.proofs.Common.{◌≡◌, ◌≤◌, ◌<◌, ◌+◌, ◌-◌, ◌*◌, ◌^◌, inl, inr, ℕ, min, max, false, cond, Option, Some, None, List, [], ◌∷◌, length, map, reverse, All, Contains, IfSome, count_by, slice_index, slice_index_or, unwrap_or, refl, sym, ap, subst, ◌∙◌, arith}
-use Rattle.std.specs.List.{AllZip, sum_by}
+use Rattle.std.proofs.Common.{◌≡◌, ◌≤◌, ◌<◌, ◌+◌, ◌-◌, ◌*◌, ◌^◌, ◌⊎◌, inl, inr, ℕ, suc, min, max, Bool, true, false, nat_lt, Option, Some, None, List, [], ◌∷◌, ◌++◌, length, map, All, Contains, IfSome, count_by, slice_index, slice_index_or, unwrap_or, refl, sym, ap, subst, ◌∙◌, arith}
+use Rattle.std.specs.List.{AllZip, flat_map, sum_by}
+use Rattle.std.specs.Prelude.{if◌then◌else◌}
+use Rattle.std.proofs.lemmas.Bool.Decides.{eqb_tells}
+use Rattle.std.proofs.lemmas.Grind.{flat_map-append}
+use Rattle.std.proofs.lemmas.List.Folds.{flat_map-map}
 use Rattle.std.proofs.lemmas.List.{length-map}
-use Rattle.std.proofs.lemmas.List.Elements.{All-nil, All-cons}
-use Rattle.std.proofs.lemmas.List.Sums.{sum_by-cons, count_by-le-length}
+use Rattle.std.proofs.lemmas.List.Elements.{All-nil, All-cons, All-append}
+use Rattle.std.proofs.lemmas.List.Sums.{sum_by-le-sum_by, count_by-le-length}
 use Rattle.std.proofs.lemmas.Slice.Zip.{AllZip-long}
-use Rattle.topk_theory.proofs.AgreementLists.{contains_nil, contains_at, contains_here, contains_there, contains_cases}
+use Rattle.topk_theory.proofs.AgreementLists.{contains_nil, contains_here, contains_there, contains_cases, contains_map, contains_map_from, member_of_all}
 use Rattle.ranked_list.specs.declared.row.Row.{Row}
 use Rattle.atomic_table.specs.Seated.{TableId}
 use Rattle.turn_lock.specs.declared.facts.Tally.{Tally}
 use Rattle.turn_lock.specs.declared.known.Known.{Known}
 use Rattle.turn_lock.specs.Known.{Follows}
+use Rattle.tickets.specs.declared.draws.Draws.{Draws}
+use Rattle.tickets.specs.Draws.{all_parts as all_draws, times}
+use Rattle.tickets.specs.Places.{standing}
+use Rattle.tickets.specs.Rule.{drawn_before}
+use Rattle.tickets.specs.declared.placing.Done.{Done}
 use Rattle.source_api.specs.declared.counts.Counts.{Counts}
 use Rattle.source_state.specs.declared.entry.LogEntry.{LogEntry}
 use Rattle.source_api.specs.declared.source.FailKind.{FailKind}
@@ -42,20 +51,18 @@ use Rattle.topk_base.specs.Ranges.{AreSettings}
 use Rattle.batch_result.specs.Numbered.{told_at, version_at, counts_at}
 use Rattle.batch_result.specs.declared.batch.Use.{Use}
 use Rattle.batch_run.specs.declared.work.Worker.{Worker}
-use Rattle.batch_run.specs.Shares.{share, share_from}
+use Rattle.batch_run.specs.declared.hire.Crew.{Crew}
 use Rattle.batch_result.specs.Using.{is_refused_for, IsWantedBy, IsNamedBy, all_grades_on, IsUsed, HasCounted}
 use Rattle.batch_result.specs.Refusing.{IsRefusedByTurns}
 use Rattle.batch_result.specs.Batches.{batch_of, use_at, IsClosing, IsSpared, IsBatch}
 use Rattle.batch_result.specs.Cut.{IsReadBy, IsOfBegun, begun, IsCut}
-use Rattle.batch_run.specs.Working.{End, IsEndOf, StoodIf, DidOf, RanAll}
+use Rattle.batch_run.specs.Working.{End, IsEndOf, IsStood, Run, IsRunOf, ended_at, ended_of, places_of, stood_of, HasWorked}
 use Rattle.batch_run.specs.Slots.{SlotState, slot_at}
-use Rattle.batch_run.specs.Crews.{IsBase, HasLeft, HasFetched, Rejoins}
-use Rattle.batch_run.specs.Finishing.{AreShares, UsedOf, slots_run}
+use Rattle.batch_run.specs.Crews.{IsBase, IsFirst, HasLeft, HasFetched, Rejoins}
+use Rattle.batch_run.specs.Finishing.{UsedOf, slots_run, CanFinish}
 use Rattle.batch_result.proofs.AccountLaws.{asks_on}
-use Rattle.batch_run.proofs.SumLaws.{sum_up, sum_up_bound}
-use Rattle.batch_run.proofs.ShareLaws.{HasShares, whole_of, shares_add}
 use Rattle.batch_result.proofs.Places.{map_at, stands_at}
-use Rattle.batch_run.proofs.Picks.{Picked, picked, sum_ones, share_member, share_map, share_long}
+use Rattle.batch_run.proofs.AtPlaces.{with_all, all_in, has_in, times_in, few_in, sum_by_map, sum_ones, rows, zip_rows, rows_has, paired, at_place, stands_of, stands_there, rows_count}
 use Rattle.batch_result.proofs.TruthLaws.{told_honest}
 use Rattle.batch_result.proofs.ShutLaws.{Shut, fetched_shut}
 use Rattle.batch_result.proofs.LaterLaws.{begins_on, at_most_on, IsAhead, ahead_of, all_later, served_later}
@@ -93,44 +100,14 @@ have_all pool counts workers base pass feeds is rejoins ones fed = record {
       omega (arith, parts, mine, his, sum, long);
 }
 
--- what a worker's queries came to, by its number
-pub record EndsAt (workers : ℕ) (readies : List Ready) (number : ℕ) (worker : Worker) (ends : List End) : Type 0 where
-  pub ran : RanAll (share workers number readies) worker ends
-  pub ended : worker.ended.items ≡ reverse (map (λ end. end.1) ends)
-
-ends_at : (pool : List TableId) (counts : List ℕ) (workers : ℕ) (readies : List Ready) (number : ℕ) (worker : Worker)
-    → HasLeft pool counts workers readies number worker
-    → worker.short ≡ false → (ends : List End) × EndsAt workers readies number worker ends
-ends_at pool counts workers readies number worker h enough =
-    let worked = h.worked enough in
-    (worked.ends, record { ran = subst (λ n. RanAll (share workers n readies) worker worked.ends) h.number_is worked.ran; ended = worked.ended })
-
-pub all_ends : (pool : List TableId) (counts : List ℕ) (readies : List Ready) (workers : List Worker)
-    → ((i : ℕ) (d : Worker) → i < length workers → HasLeft pool counts (length workers) readies i (slice_index_or workers i d))
-    → ((i : ℕ) (d : Worker) → i < length workers → (slice_index_or workers i d).short ≡ false)
-    → Picked (EndsAt (length workers) readies) workers
-all_ends pool counts readies workers left enough =
-    picked (EndsAt (length workers) readies) [] workers
-    (λ i d l. ends_at pool counts (length workers) readies i (slice_index_or workers i d) (left i d l) (enough i d l))
-
--- the endings of all, as the workers have them
-shares_of : (workers : List Worker) (readies : List Ready) (p : Picked (EndsAt (length workers) readies) workers) (xs : List End)
-    → ((i : ℕ) → i < length workers → share_from (length workers) i 0 xs ≡ p.pick i) → AreShares (map (λ (end : End). end.1) xs) workers
-shares_of workers readies p xs shares = record {
-  each = λ i d l.
-      (p.is i d l).ended
-      ∙ ap (reverse {A = Ended}) (ap (map (λ (end : End). end.1)) (sym (shares i l)) ∙ share_map (λ (end : End). end.1) (length workers) i 0 xs);
-}
-
-pub some_whole : (workers : List Worker) (readies : List Ready) → 0 < length workers → Picked (EndsAt (length workers) readies) workers
-    → (whole : List Ended) × (length whole ≡ length readies) × AreShares whole workers
-some_whole workers readies some p =
-    let of : Ready → End → Type 0 = λ ready end. IsOf ready end.0 in
-    let h = whole_of of (length workers) 0 readies p.pick some
-    (λ i l.
-    let e = stands_at workers i l in
-    zip_map (IsEndOf (slice_index_or workers i e.item).pass) of (λ ready end is. is.of) (share_from (length workers) i 0 readies) (p.pick i) (p.is i e.item l).ran.each) in
-    (map (λ (end : End). end.1) h.whole, length-map h.whole (λ (end : End). end.1) ∙ AllZip-long of readies h.whole h.follows, shares_of workers readies p h.whole h.shares)
+-- the parts of the tickets come together
+pub all_drawn : (pool : List TableId) (tickets : TableId) (counts : List ℕ) (readies : List Ready) (workers : List Worker) (base : TableId × Draws) (draws : Draws)
+    → IsFirst tickets (length workers) base → ((i : ℕ) (d : Worker) → i < length workers → HasLeft pool tickets counts readies (slice_index_or workers i d))
+    → draws.parts ≡ base.1.parts + sum_by (λ (w : Worker). w.draws.1.parts) workers → draws.parts ≡ all_draws
+all_drawn pool tickets counts readies workers base draws first left parts =
+    let given = first.parts in
+    let ones = sum_ones (λ (w : Worker). w.draws.1.parts) workers (λ i d l. (left i d l).at_work.draws.1) in
+    omega (arith, given, ones, parts)
 
 -- the closing state of a source
 told_closing : (page ahead : ℕ) (told : Option (List Row)) (before after : Counts) (first last : Known LogEntry) → first.seen ≡ []
@@ -192,12 +169,12 @@ pub record IsEnded (states : List State) (ready : Ready) (end : End) : Type 0 wh
   pub own : IsRefusedByTurns states end.0
   pub served : IsServed states end.0
 
-pub ended_at : (states : List State) (holds : List Hold) (ready : Ready) (end : End) → length states ≡ length holds
+ended_at_last : (states : List State) (holds : List Hold) (ready : Ready) (end : End) → length states ≡ length holds
     → ((source : ℕ) → source < length holds → IsAhead (hold_at holds source).pass.1 (state_at states source))
     → ((source : ℕ) → source < length holds → IsSound (state_at states source))
     → ((source : ℕ) → source < length holds → Shut (state_at states source).log)
     → IsEndOf holds ready end → IsEnded states ready end
-ended_at states holds ready end many ahead sound shut h =
+ended_at_last states holds ready end many ahead sound shut h =
     let long : length holds ≡ length h.then_held = h.since.size in
     let saw : (source : ℕ) → source < length holds → IsAhead (hold_at h.then_held source).pass.1 (state_at states source)
     = λ source l.
@@ -231,13 +208,12 @@ pub record IsOver (states : List State) (ready : Ready) (q : RunningQuery) : Typ
 abbrev OverIf : List State → Ready → Option RunningQuery → Type 0
 OverIf states ready one = IfSome one (IsOver states ready)
 
-over_at : (states : List State) (holds : List Hold) (ready : Ready) (one : Option RunningQuery) → length states ≡ length holds
+over_at : (states : List State) (holds : List Hold) (ready : Ready) (q : RunningQuery) → length states ≡ length holds
     → ((source : ℕ) → source < length holds → IsAhead (hold_at holds source).pass.1 (state_at states source))
     → ((source : ℕ) → source < length holds → IsSound (state_at states source))
     → ((source : ℕ) → source < length holds → Shut (state_at states source).log)
-    → StoodIf holds ready one → OverIf states ready one
-over_at states holds ready None many ahead sound shut h = tt
-over_at states holds ready (Some q) many ahead sound shut h =
+    → IsStood holds ready q → IsOver states ready q
+over_at states holds ready q many ahead sound shut h =
     let long : length holds ≡ length h.then_held = h.since.size in
     let saw : (source : ℕ) → source < length holds → IsAhead (hold_at h.then_held source).pass.1 (state_at states source)
     = λ source l.
@@ -264,33 +240,79 @@ over_served states (ready ∷ readies) [] h = absurd h
 over_served states (ready ∷ readies) (None ∷ stood) h = over_served states readies stood h.1
 over_served states (ready ∷ readies) (Some q ∷ stood) h = All-cons (IsServed states) q (begun stood) h.0.served (over_served states readies stood h.1)
 
--- how a worker's queries stood, by its number
-pub record BeganAt (workers : ℕ) (readies : List Ready) (number : ℕ) (worker : Worker) (stood : List (Option RunningQuery)) : Type 0 where
-  pub each : AllZip (StoodIf worker.pass) (share workers number readies) stood
-  pub did : (source : ℕ) → DidOf (begun stood) source (hold_at worker.pass source)
+-- a run, over the closing states
+pub record IsRunOver (states : List State) (readies : List Ready) (run : Run) : Type 0 where
+  pub there : run.place < length readies
+  pub over : (default : Ready) → IsOver states (slice_index_or readies run.place default) run.stood
+  pub ended : (default : Ready) → IfSome run.ended (λ ended. IsEnded states (slice_index_or readies run.place default) (run.stood, ended))
 
-began_at : (pool : List TableId) (counts : List ℕ) (workers : ℕ) (readies : List Ready) (number : ℕ) (worker : Worker)
-    → HasLeft pool counts workers readies number worker → (stood : List (Option RunningQuery)) × BeganAt workers readies number worker stood
-began_at pool counts workers readies number worker h = (
-  h.began.stood,
-  record { each = subst (λ n. AllZip (StoodIf worker.pass) (share workers n readies) h.began.stood) h.number_is h.began.each; did = h.began.did },
-)
+ended_if : (states : List State) (holds : List Hold) (ready : Ready) (q : RunningQuery) (ended : Option Ended)
+    → ((end : End) → IsEndOf holds ready end → IsEnded states ready end)
+    → IfSome ended (λ (e : Ended). IsEndOf holds ready (q, e)) → IfSome ended (λ (e : Ended). IsEnded states ready (q, e))
+ended_if states holds ready q None f h = tt
+ended_if states holds ready q (Some e) f h = f (q, e) h
 
-pub all_began : (pool : List TableId) (counts : List ℕ) (readies : List Ready) (workers : List Worker)
-    → ((i : ℕ) (d : Worker) → i < length workers → HasLeft pool counts (length workers) readies i (slice_index_or workers i d))
-    → Picked (BeganAt (length workers) readies) workers
-all_began pool counts readies workers left =
-    picked (BeganAt (length workers) readies) [] workers (λ i d l. began_at pool counts (length workers) readies i (slice_index_or workers i d) (left i d l))
+ended_so : (states : List State) (ready : Ready) (q : RunningQuery) (ended : Option Ended) (e : Ended) → ended ≡ Some e
+    → IfSome ended (λ (e : Ended). IsEnded states ready (q, e)) → IsEnded states ready (q, e)
+ended_so states ready q ended e same h = subst (λ (o : Option Ended). IfSome o (λ (e : Ended). IsEnded states ready (q, e))) same h
 
--- the queries that began, and where they stood
-begun_from : (stood : List (Option RunningQuery)) (q : RunningQuery) → Contains (begun stood) q → Contains stood (Some q)
-begun_from [] q c = absurd (contains_nil q c)
-begun_from (None ∷ stood) q c = contains_there None stood (Some q) (begun_from stood q c)
-begun_from (Some p ∷ stood) q c = elim (contains_cases p (begun stood) q c) [
-  | inl same ↦ subst (λ r. Contains (Some p ∷ stood) (Some r)) same (contains_here (Some p) stood)
-  | inr there ↦ contains_there (Some p) stood (Some q) (begun_from stood q there)
+-- what is kept of how runs ended: of each list of them, and what stands at a place
+kept_in : {Y : Type 0} (f : Y → List Run) (ys : List Y) → flat_map (λ (y : Y). ended_of (f y)) ys ≡ ended_of (flat_map f ys)
+kept_in f [] = refl
+kept_in f (y ∷ ys) =
+    ap (λ l. ended_of (f y) ++ l) (kept_in f ys) ∙ sym (flat_map-append (λ (run : Run). ended_at run.place run.ended) (f y) (flat_map f ys))
+
+-- what a worker keeps is of places that are there
+ended_within : (n : ℕ) (runs : List Run) → All (λ (run : Run). run.place < n) runs → All (λ (done : Done Ended). done.place < n) (ended_of runs)
+ended_within n [] h = All-nil (λ (done : Done Ended). done.place < n)
+ended_within n (run ∷ runs) h =
+    All-append (λ (done : Done Ended). done.place < n) (ended_at run.place run.ended) (ended_of runs) (first_within run.place run.ended (h 0 run (omega arith)))
+    (ended_within n runs (λ i d l. h (suc i) d (omega (arith, l))))
+  where
+    first_within : (place : ℕ) (ended : Option Ended) → place < n → All (λ (done : Done Ended). done.place < n) (ended_at place ended)
+    first_within place None l = All-nil (λ (done : Done Ended). done.place < n)
+    first_within place (Some e) l = All-cons (λ (done : Done Ended). done.place < n) (record { place = place; answer = e }) [] l (All-nil (λ (done : Done Ended). done.place < n))
+
+pub kept_within : (n : ℕ) (readies : List Ready) (worker : Worker) → length readies ≡ n → HasWorked readies worker
+    → All (λ (done : Done Ended). done.place < n) worker.ended.items
+kept_within n readies worker many h =
+    subst (All (λ (done : Done Ended). done.place < n)) (sym h.ended)
+    (ended_within n h.runs (λ i d l. let there = (h.each i d l).there in omega (arith, there, many)))
+
+-- a number is drawn once at most
+pub once_at_most : (next number : ℕ) → drawn_before next number ≤ 1
+once_at_most next number = by_test (nat_lt number next)
+  where
+    by_test : (b : Bool) → (if b then 1 else 0) ≤ 1
+    by_test true = omega arith
+    by_test false = omega arith
+
+once_by : (runs each drew all : ℕ) → runs ≡ each → each ≤ drew → drew ≡ all → all ≤ 1 → runs ≤ 1
+once_by runs each drew all a b c d = omega (arith, a, b, c, d)
+
+few_by : (those all limit product some : ℕ) → min all limit ≤ product → those ≤ all → those ≤ some → some ≤ limit → those ≤ product
+few_by those all limit product some a b c d = omega (arith, a, b, c, d)
+
+-- what stands at a place is how the run of this place ended
+run_standing : (p : ℕ) (runs : List Run) (e : Ended) → standing p (ended_of runs) None ≡ Some e
+    → (run : Run) × Contains runs run × (run.place ≡ p) × (run.ended ≡ Some e)
+run_standing p [] e is = absurd (none_not_some is)
+run_standing p (run ∷ runs) e is = elim (first_standing run.place run.ended runs e is) [
+  | inl one ↦ (run, contains_here run runs, one.0, one.1)
+  | inr more ↦
+      let rest = run_standing p runs e more in
+      (rest.0, contains_there run runs rest.0 rest.1, rest.2, rest.3)
 ]
+  where
+    first_standing : (place : ℕ) (ended : Option Ended) (runs : List Run) (e : Ended) → standing p (ended_at place ended ++ ended_of runs) None ≡ Some e
+        → ((place ≡ p) × (ended ≡ Some e)) ⊎ (standing p (ended_of runs) None ≡ Some e)
+    first_standing place None runs e is = inr is
+    first_standing place (Some x) runs e is = elim (eqb_tells place p) [
+      | inl t ↦ inl (t.1, sym (ap (λ b. if b then Some x else standing p (ended_of runs) None) t.0) ∙ is)
+      | inr t ↦ inr (sym (ap (λ b. if b then Some x else standing p (ended_of runs) None) t.0) ∙ is)
+    ]
 
+-- where a query stood that began
 begun_has : (stood : List (Option RunningQuery)) (q : RunningQuery) → Contains stood (Some q) → Contains (begun stood) q
 begun_has [] q c = absurd (contains_nil (Some q) c)
 begun_has (None ∷ stood) q c = elim (contains_cases None stood (Some q) c) [
@@ -310,24 +332,53 @@ begun_ended [] = refl
 begun_ended (end ∷ ends) = ap (λ qs. end.0 ∷ qs) (begun_ended ends)
 
 -- what worked together
-pub record Situation (pool : List TableId) (settings : Settings) (counts : List ℕ) (readies : List Ready) (before after : List SlotState) (workers : List Worker)
+pub record Situation (pool : List TableId) (tickets : TableId) (settings : Settings) (counts : List ℕ) (readies : List Ready) (before after : List SlotState) (workers : List Worker)
     (base pass : List Hold) (feeds : List Feed) (states : List State) (uses : List Use) : Type 0 where
   pub settings_are : AreSettings settings
   pub size : length workers ≡ settings.workers
   pub few : length readies < 2 ^ 32
   pub slots : (length before ≡ length counts) × (length after ≡ length counts)
   pub base_is : IsBase pool counts (length workers) base
-  pub left : (i : ℕ) (d : Worker) → i < length workers → HasLeft pool counts (length workers) readies i (slice_index_or workers i d)
+  pub left : (i : ℕ) (d : Worker) → i < length workers → HasLeft pool tickets counts readies (slice_index_or workers i d)
   pub fetched : (source : ℕ) → source < length counts
       → HasFetched pool settings source (slice_index counts source) (slot_at before source) (slot_at after source) (feed_at feeds source)
   pub rejoins : Rejoins pool (passes workers) base pass
   pub closed : AreClosed pool pass feeds states
   pub uses_many : length uses ≡ length counts
   pub used : (source : ℕ) → source < length counts → UsedOf (state_at states source) (slot_at after source).fetched (use_at uses source)
+  pub once : (number : ℕ) → sum_by (λ (w : Worker). times number w.draws.1.drawn) workers ≤ 1
 
-module _ (pool : List TableId) (settings : Settings) (counts : List ℕ) (readies : List Ready) (before after : List SlotState) (workers : List Worker)
+-- a crew that has run, whose passes were joined and whose pool was closed
+pub situated : (settings : Settings) (counts : List ℕ) (readies : List Ready) (before after : List SlotState) (crew : Crew) (pass : List Hold) (draws : Draws) (next : ℕ)
+    (states : List State) (uses : List Use) → CanFinish settings counts readies before after crew → Rejoins crew.pool (passes crew.workers.items) crew.pass pass
+    → ((number : ℕ) → times number draws.drawn ≡ times number crew.draws.1.drawn + sum_by (λ (w : Worker). times number w.draws.1.drawn) crew.workers.items)
+    → ((number : ℕ) → times number draws.drawn ≡ drawn_before next number) → AreClosed crew.pool pass crew.feeders.items states → length uses ≡ length after
+    → ((source : ℕ) → source < length after → UsedOf (state_at states source) (slot_at after source).fetched (use_at uses source))
+    → Situation crew.pool crew.tickets settings counts readies before after crew.workers.items crew.pass pass crew.feeders.items states uses
+situated settings counts readies before after crew pass draws next states uses can rejoins drawn closed shut many used = record {
+  settings_are = can.settings_are;
+  size = can.ran.size;
+  few = can.few.0;
+  slots = can.ran.slots;
+  base_is = can.ran.base;
+  left = can.ran.each;
+  fetched = can.ran.fetched;
+  rejoins = rejoins;
+  closed = shut;
+  uses_many = many ∙ can.ran.slots.1;
+  used = λ source l. used source (let e = can.ran.slots.1 in omega (arith, l, e));
+  once = λ number.
+      once_by (sum_by (λ (w : Worker). times number w.draws.1.drawn) crew.workers.items) (times number draws.drawn) (times number draws.drawn) (drawn_before next number)
+      (sum_alone (times number draws.drawn) (times number crew.draws.1.drawn) (sum_by (λ (w : Worker). times number w.draws.1.drawn) crew.workers.items) (drawn number)
+      (ap (times number) can.ran.first.none)) (omega arith) (closed number) (once_at_most next number);
+}
+  where
+    sum_alone : (all old sum : ℕ) → all ≡ old + sum → old ≡ 0 → sum ≡ all
+    sum_alone all old sum a b = omega (arith, a, b)
+
+module _ (pool : List TableId) (tickets : TableId) (settings : Settings) (counts : List ℕ) (readies : List Ready) (before after : List SlotState) (workers : List Worker)
     (base pass : List Hold) (feeds : List Feed) (states : List State) (uses : List Use)
-    (h : Situation pool settings counts readies before after workers base pass feeds states uses) where
+    (h : Situation pool tickets settings counts readies before after workers base pass feeds states uses) where
   there : (source : ℕ) → source < length counts → source < length pool
   there source l = let size = h.base_is.size in omega (arith, l, size)
 
@@ -343,35 +394,110 @@ module _ (pool : List TableId) (settings : Settings) (counts : List ℕ) (readie
   shut source l =
       closing_shut pool settings source (slice_index counts source) (slot_at before source) (slot_at after source) (feed_at feeds source) (hold_at pass source).pass.1 (state_at states source) (closes source l)
 
+  -- a worker that has worked, with what it left
+  abbrev Hand : Type 0
+  Hand = (w : Worker) × HasLeft pool tickets counts readies w
+
+  all_hands : (hands : List Hand) × (map (λ (y : Hand). y.0) hands ≡ workers)
+  all_hands = with_all (HasLeft pool tickets counts readies) workers h.left
+
+  abbrev hands : List Hand
+  hands = all_hands.0
+
+  abbrev runs_by : Hand → List Run
+  runs_by y = y.1.at_work.worked.runs
+
+  -- all runs, worker by worker
+  abbrev runs : List Run
+  runs = flat_map runs_by hands
+
+  pass_of : (y : Hand) → Contains hands y → Contains (passes workers) y.0.pass
+  pass_of y c =
+      contains_map (λ (w : Worker). w.pass) workers y.0 (subst (λ (ws : List Worker). Contains ws y.0) all_hands.1 (contains_map (λ (z : Hand). z.0) hands y c))
+
+  hand_of : (other : List Hold) → Contains (passes workers) other → (y : Hand) × Contains hands y × (y.0.pass ≡ other)
+  hand_of other c =
+      let one = contains_map_from (λ (w : Worker). w.pass) workers other c in
+      let y = contains_map_from (λ (z : Hand). z.0) hands one.0 (subst (λ (ws : List Worker). Contains ws one.0) (sym all_hands.1) one.1) in
+      (y.0, y.1, ap (λ (w : Worker). w.pass) y.2 ∙ one.2)
+
   -- a worker's pass
-  knows : (i : ℕ) (d : Worker) → i < length workers → (source : ℕ) → source < length counts
-      → Follows (hold_at (slice_index_or workers i d).pass source).pass.1 (hold_at pass source).pass.1
-  knows i d l source s =
-      h.rejoins.knows (slice_index_or workers i d).pass
-      (subst (Contains (passes workers)) (pass_at workers i (slice_index_or workers i d).pass d l)
-      (contains_at (passes workers) i (slice_index_or workers i d).pass (subst (λ n. i < n) (sym (length-map workers (λ (w : Worker). w.pass))) l)))
-      source (there source s)
-
-  ahead : (i : ℕ) (d : Worker) → i < length workers → (source : ℕ) → source < length counts
-      → IsAhead (hold_at (slice_index_or workers i d).pass source).pass.1 (state_at states source)
-  ahead i d l source s =
+  ahead : (y : Hand) → Contains hands y → (source : ℕ) → source < length counts → IsAhead (hold_at y.0.pass source).pass.1 (state_at states source)
+  ahead y c source s =
       ahead_at pool settings source (slice_index counts source) (slot_at before source) (slot_at after source) (feed_at feeds source) (hold_at pass source).pass.1
-      (hold_at (slice_index_or workers i d).pass source).pass.1 (state_at states source) (closes source s) (knows i d l source s) ((h.left i d l).name source s)
+      (hold_at y.0.pass source).pass.1 (state_at states source) (closes source s) (h.rejoins.knows y.0.pass (pass_of y c) source (there source s)) (y.1.name source s)
 
-  ended : (i : ℕ) (d : Worker) → i < length workers → (ready : Ready) (end : End) → IsEndOf (slice_index_or workers i d).pass ready end
-      → IsEnded states ready end
-  ended i d l ready end is =
+  -- a worker's runs, over the closing states
+  run_over : (y : Hand) → Contains hands y → (run : Run) → IsRunOf y.0.pass readies run → IsRunOver states readies run
+  run_over y c run is =
       let size = h.base_is.size in
-      let own = (h.left i d l).own.size in
+      let own = y.1.at_work.own.size in
       let closed = h.closed.size in
-      let long : length (slice_index_or workers i d).pass ≡ length counts = own ∙ size in
-      ended_at states (slice_index_or workers i d).pass ready end (closed ∙ sym own)
-      (λ source s. ahead i d l source (subst (λ n. source < n) long s))
-      (λ source s. (closing source (subst (λ n. source < n) long s)).sound)
-      (λ source s. shut source (subst (λ n. source < n) long s)) is
+      let long : length y.0.pass ≡ length counts = own ∙ size in
+      record {
+        there = is.there;
+        over = λ d. over_at states y.0.pass (slice_index_or readies run.place d) run.stood (closed ∙ sym own)
+            (λ source s. ahead y c source (subst (λ n. source < n) long s))
+            (λ source s. (closing source (subst (λ n. source < n) long s)).sound)
+            (λ source s. shut source (subst (λ n. source < n) long s)) (is.stood d);
+        ended = λ d. ended_if states y.0.pass (slice_index_or readies run.place d) run.stood run.ended
+            (λ end e. ended_at_last states y.0.pass (slice_index_or readies run.place d) end (closed ∙ sym own)
+            (λ source s. ahead y c source (subst (λ n. source < n) long s))
+            (λ source s. (closing source (subst (λ n. source < n) long s)).sound)
+            (λ source s. shut source (subst (λ n. source < n) long s)) e)
+            (is.ended d);
+      }
 
-  some : 0 < length workers
-  some = let size = h.size in let one = h.settings_are.some_workers in omega (arith, size, one)
+  runs_over : All (IsRunOver states readies) runs
+  runs_over = all_in runs_by (IsRunOver states readies) hands (λ y c i d l. run_over y c (slice_index_or (runs_by y) i d) (y.1.at_work.worked.each i d l))
+
+  over_in : (run : Run) → Contains runs run → IsRunOver states readies run
+  over_in run c = member_of_all (IsRunOver states readies) runs run runs_over c
+
+  -- no place has two runs
+  once : (number : ℕ) → times number (places_of runs) ≤ 1
+  once number =
+      let all = times_in runs_by (λ (run : Run). run.place) number hands in
+      let each = sum_by-le-sum_by (λ (y : Hand). times number (places_of (runs_by y))) (λ (y : Hand). times number y.0.draws.1.drawn) hands (λ y. y.1.at_work.worked.drawn number) in
+      let drew : sum_by (λ (y : Hand). times number y.0.draws.1.drawn) hands ≡ sum_by (λ (w : Worker). times number w.draws.1.drawn) workers =
+      sym (sum_by_map (λ (y : Hand). y.0) (λ (w : Worker). times number w.draws.1.drawn) hands) ∙ ap (sum_by (λ (w : Worker). times number w.draws.1.drawn)) all_hands.1 in
+      once_by (times number (places_of runs)) (sum_by (λ (y : Hand). times number (places_of (runs_by y))) hands) (sum_by (λ (y : Hand). times number y.0.draws.1.drawn) hands)
+      (sum_by (λ (w : Worker). times number w.draws.1.drawn) workers) all each drew (h.once number)
+
+  -- how the query of each place stood, if it began
+  abbrev stood_at : ℕ → Option RunningQuery
+  stood_at p = at_place (λ (run : Run). run.place) (λ (run : Run). run.stood) p runs
+
+  abbrev stood : List (Option RunningQuery)
+  stood = rows stood_at 0 readies
+
+  stood_over : AllZip (OverIf states) readies stood
+  stood_over = zip_rows (OverIf states) stood_at 0 readies (λ i d l. by_place i d (stood_at (0 + i)) refl)
+    where
+      by_place : (i : ℕ) (d : Ready) (one : Option RunningQuery) → stood_at (0 + i) ≡ one → OverIf states (slice_index_or readies i d) one
+      by_place i d None e = tt
+      by_place i d (Some q) e =
+          let run = stands_of (λ (run : Run). run.place) (λ (run : Run). run.stood) (0 + i) runs q e in
+          let here : run.0.place ≡ i = let same = run.2 in omega (arith, same) in
+          subst (IsOver states (slice_index_or readies i d)) run.3 (subst (λ n. IsOver states (slice_index_or readies n d) run.0.stood) here ((over_in run.0 run.1).over d))
+
+  abbrev those : List RunningQuery
+  those = begun stood
+
+  -- each run's query is one of those
+  run_stands : (run : Run) → Contains runs run → stood_at run.place ≡ Some run.stood
+  run_stands run c = stands_there (λ (run : Run). run.place) (λ (run : Run). run.stood) runs run (once run.place) c
+
+  run_began : (run : Run) → Contains runs run → Contains those run.stood
+  run_began run c =
+      let has = rows_has stood_at 0 run.place readies (over_in run c).there in
+      let here : 0 + run.place ≡ run.place = omega arith in
+      begun_has stood run.stood (subst (Contains stood) (ap stood_at here ∙ run_stands run c) has)
+
+  within : (y : Hand) → Contains hands y → (q : RunningQuery) → Contains (stood_of (runs_by y)) q → Contains those q
+  within y c q is =
+      let run = contains_map_from (λ (run : Run). run.stood) (runs_by y) q is in
+      subst (Contains those) run.2 (run_began run.0 (has_in runs_by hands y run.0 c run.1))
 
   -- the counts and lists of the slots, as a run has them
   counts_before : (source : ℕ) → source < length counts → counts_at (map (λ (slot : SlotState). slot.counts) before) source ≡ (slot_at before source).counts
@@ -386,205 +512,163 @@ module _ (pool : List TableId) (settings : Settings) (counts : List ℕ) (readie
   told_before : (source : ℕ) → source < length counts → told_at (map (λ (slot : SlotState). slot.told) before) source ≡ (slot_at before source).told
   told_before source s = map_at (λ (slot : SlotState). slot.told) before source _ _ (let e = h.slots.0 in omega (arith, s, e))
 
-  -- with how the queries of each worker stood
-  module _ (stood : List (Option RunningQuery))
-      (did : (i : ℕ) (d : Worker) → i < length workers → (source : ℕ)
-      → DidOf (begun (share_from (length workers) i 0 stood)) source (hold_at (slice_index_or workers i d).pass source)) where
-    abbrev those : List RunningQuery
-    those = begun stood
+  -- the greatest depth that was wanted
+  wanted_by : (source depth : ℕ) (y : Hand) → Contains hands y → IsWantedBy (stood_of (runs_by y)) source depth → IsWantedBy those source depth
+  wanted_by source depth y c (inl none) = inl none
+  wanted_by source depth y c (inr one) = inr (one.0, within y c one.0 one.1, one.2)
 
-    within : (i : ℕ) (q : RunningQuery) → Contains (begun (share_from (length workers) i 0 stood)) q → Contains those q
-    within i q c = begun_has stood q (share_member (length workers) i 0 stood (Some q) (begun_from (share_from (length workers) i 0 stood) q c))
+  high_by : (source : ℕ) → source < length counts → IsWantedBy those source (hold_at pass source).pass.1.high
+  high_by source s = elim (h.rejoins.high source (there source s)) [
+    | inl same ↦ inl (same ∙ h.base_is.high source s)
+    | inr one ↦
+        let y = hand_of one.0 one.1 in
+        subst (IsWantedBy those source) (sym (one.2 ∙ ap (λ (p : List Hold). (hold_at p source).pass.1.high) (sym y.2)))
+        (wanted_by source (hold_at y.0.0.pass source).pass.1.high y.0 y.1 (y.0.1.at_work.worked.did source).rows)
+  ]
 
-    -- the greatest depth that was wanted
-    wanted_by : (source depth : ℕ) (i : ℕ) → IsWantedBy (begun (share_from (length workers) i 0 stood)) source depth
-        → IsWantedBy those source depth
-    wanted_by source depth i (inl none) = inl none
-    wanted_by source depth i (inr one) =
-        inr (one.0, within i one.0 one.1, one.2)
+  want_by : (source : ℕ) → source < length counts → IsWantedBy those source (state_at states source).want
+  want_by source s =
+      let closed = h.closed.each source (there source s) in
+      let none : (feed_at feeds source).pass.1.high ≡ 0 = (h.fetched source s).feeds.high in
+      let want : (state_at states source).want ≡ (hold_at pass source).pass.1.high = closed.want ∙ (ap (λ n. max n (hold_at pass source).pass.1.high) none ∙ omega arith) in
+      subst (IsWantedBy those source) (sym want) (high_by source s)
 
-    high_by : (source : ℕ) → source < length counts → IsWantedBy those source (hold_at pass source).pass.1.high
-    high_by source s = elim (h.rejoins.high source (there source s)) [
-      | inl same ↦ inl (same ∙ h.base_is.high source s)
-      | inr one ↦
-          let place = one.1.0 in
-          let within : place < length workers = subst (λ n. place < n) (length-map workers (λ (w : Worker). w.pass)) one.1.1 in
-          let e = (stands_at workers place within).item in
-          let is : (slice_index_or workers place e).pass ≡ one.0 = sym (pass_at workers place one.0 e within) ∙ one.1.2 in
-          subst (IsWantedBy those source) (sym (one.2 ∙ ap (λ (p : List Hold). (hold_at p source).pass.1.high) (sym is)))
-          (wanted_by source (hold_at (slice_index_or workers place e).pass source).pass.1.high place (did place e within source).rows)
-    ]
+  -- which objects were asked
+  mine_by : (source object : ℕ) → source < length counts → Contains (hold_at pass source).pass.1.mine object → IsNamedBy those source object
+  mine_by source object s c = elim (h.rejoins.mine source (there source s) object c) [
+    | inl base ↦ absurd (contains_nil object (subst (λ os. Contains os object) (h.base_is.mine source s) base))
+    | inr one ↦
+        let y = hand_of one.0 one.1 in
+        let named = (y.0.1.at_work.worked.did source).mine object (subst (λ (p : List Hold). Contains (hold_at p source).pass.1.mine object) (sym y.2) one.2) in
+        (named.0, within y.0 y.1 named.0 named.1, named.2)
+  ]
 
-    want_by : (source : ℕ) → source < length counts → IsWantedBy those source (state_at states source).want
-    want_by source s =
-        let closed = h.closed.each source (there source s) in
-        let none : (feed_at feeds source).pass.1.high ≡ 0 = (h.fetched source s).feeds.high in
-        let want : (state_at states source).want ≡ (hold_at pass source).pass.1.high = closed.want ∙ (ap (λ n. max n (hold_at pass source).pass.1.high) none ∙ omega arith) in
-        subst (IsWantedBy those source) (sym want) (high_by source s)
+  named_by : (source object : ℕ) → source < length counts → Contains (state_at states source).asks object → IsNamedBy those source object
+  named_by source object s c =
+      let none : (feed_at feeds source).pass.1.mine ≡ [] = (h.fetched source s).feeds.mine in
+      elim ((h.closed.each source (there source s)).mine object c) [
+        | inl fed ↦ absurd (contains_nil object (subst (λ os. Contains os object) none fed))
+        | inr passed ↦ mine_by source object s passed
+      ]
 
-    -- which objects were asked
-    named_from : (source object i : ℕ) → IsNamedBy (begun (share_from (length workers) i 0 stood)) source object
-        → IsNamedBy those source object
-    named_from source object i one =
-        (one.0, within i one.0 one.1, one.2)
+  used_by : (source : ℕ) → source < length counts
+      → IsUsed settings those source (state_at states source) (slot_at before source).counts (slot_at after source).counts (use_at uses source)
+  used_by source s =
+      let u = h.used source s in
+      let metered = (h.fetched source s).metered in
+      let called = called_for settings.page settings.ahead (slot_at after source).fetched (slot_at before source).counts (slot_at after source).counts (first_feed (lock_at pool source) source (slice_index counts source)).pass.1
+      (feed_at feeds source).pass.1 (hold_at pass source).pass.1 (state_at states source) h.settings_are.some_rows metered (h.closed.each source (there source s)) in
+      let rows = called.rows in
+      let same = u.rows in
+      record {
+        want = u.want;
+        wanted = subst (IsWantedBy those source) (sym u.want) (want_by source s);
+        asks = u.asks;
+        asked = λ tables agree. subst (λ n. n ≤ all_grades_on those tables source) (sym u.asks)
+            (asks_on source those tables (state_at states source).asks agree (h.closed.each source (there source s)).sound.distinct (λ object c. named_by source object s c));
+        named = λ object c. named_by source object s c;
+        rows = subst (λ n. WentUp n (slot_at before source).counts.rows_given (slot_at after source).counts.rows_given) (sym u.rows) metered.rows;
+        reach = subst (λ n. (use_at uses source).rows ≤ reach_of n settings.page settings.ahead (state_at states source).count) (sym u.want) (omega (arith, rows, same));
+        grades = subst (λ n. WentUp n (slot_at before source).counts.grades_given (slot_at after source).counts.grades_given) (sym u.grades) metered.grades;
+        once = subst (λ n. n ≤ (use_at uses source).asks) (sym u.grades) (subst (λ n. (slot_at after source).fetched.grades ≤ n) (sym u.asks) called.grades);
+        settled =
+            let grades : 0 + (slot_at after source).fetched.grades ≤ length (settled_in (feed_at feeds source).pass.1.seen) = metered.settled in
+            let log : length (settled_in (state_at states source).log) ≡ length (settled_in (feed_at feeds source).pass.1.seen)
+            = ap (λ log. length (settled_in log)) (h.closed.each source (there source s)).log in
+            let given = u.grades in
+            omega (arith, grades, log, given);
+        comes = came_closed (feed_at feeds source).pass.1 (hold_at pass source).pass.1 (state_at states source) (slot_at after source).fetched.rows (use_at uses source).rows
+            (h.closed.each source (there source s)) u.rows (metered.comes refl);
+      }
 
-    mine_by : (source object : ℕ) → source < length counts → Contains (hold_at pass source).pass.1.mine object → IsNamedBy those source object
-    mine_by source object s c = elim (h.rejoins.mine source (there source s) object c) [
-      | inl base ↦ absurd (contains_nil object (subst (λ os. Contains os object) (h.base_is.mine source s) base))
-      | inr one ↦
-          let place = one.1.0 in
-          let within : place < length workers = subst (λ n. place < n) (length-map workers (λ (w : Worker). w.pass)) one.1.1 in
-          let e = (stands_at workers place within).item in
-          let is : (slice_index_or workers place e).pass ≡ one.0 = sym (pass_at workers place one.0 e within) ∙ one.1.2 in
-          named_from source object place ((did place e within source).mine object (subst (λ (p : List Hold). Contains (hold_at p source).pass.1.mine object) (sym is) one.2))
-    ]
+  reads : IsReadBy (slots_run settings counts readies before after) those states uses
+  reads = record {
+    many = h.closed.size ∙ h.base_is.size;
+    closing = λ source s.
+        subst (λ t. IsClosing source (slice_index counts source) t (state_at states source)) (sym (told_before source s)) (closing source s);
+    served = over_served states readies stood stood_over;
+    used = λ source s.
+        subst (λ c. IsUsed settings those source (state_at states source) c (counts_at (map (λ (slot : SlotState). slot.counts) after) source) (use_at uses source)) (sym (counts_before source s))
+        (subst (λ c. IsUsed settings those source (state_at states source) (slot_at before source).counts c (use_at uses source)) (sym (counts_now source s)) (used_by source s));
+  }
 
-    named_by : (source object : ℕ) → source < length counts → Contains (state_at states source).asks object → IsNamedBy those source object
-    named_by source object s c =
-        let none : (feed_at feeds source).pass.1.mine ≡ [] = (h.fetched source s).feeds.mine in
-        elim ((h.closed.each source (there source s)).mine object c) [
-          | inl fed ↦ absurd (contains_nil object (subst (λ os. Contains os object) none fed))
-          | inr passed ↦ mine_by source object s passed
-        ]
+  pub is_cut : IsCut (slots_run settings counts readies before after)
+  is_cut = record {
+    stood = stood;
+    states = states;
+    uses = uses;
+    of = zip_map (OverIf states) IsOfBegun (over_of states) readies stood stood_over;
+    read = reads;
+  }
 
-    used_by : (source : ℕ) → source < length counts
-        → IsUsed settings those source (state_at states source) (slot_at before source).counts (slot_at after source).counts (use_at uses source)
-    used_by source s =
-        let u = h.used source s in
-        let metered = (h.fetched source s).metered in
-        let called = called_for settings.page settings.ahead (slot_at after source).fetched (slot_at before source).counts (slot_at after source).counts (first_feed (lock_at pool source) source (slice_index counts source)).pass.1
-        (feed_at feeds source).pass.1 (hold_at pass source).pass.1 (state_at states source) h.settings_are.some_rows metered (h.closed.each source (there source s)) in
-        let rows = called.rows in
-        let same = u.rows in
-        record {
-          want = u.want;
-          wanted = subst (IsWantedBy those source) (sym u.want) (want_by source s);
-          asks = u.asks;
-          asked = λ tables agree. subst (λ n. n ≤ all_grades_on those tables source) (sym u.asks)
-              (asks_on source those tables (state_at states source).asks agree (h.closed.each source (there source s)).sound.distinct (λ object c. named_by source object s c));
-          named = λ object c. named_by source object s c;
-          rows = subst (λ n. WentUp n (slot_at before source).counts.rows_given (slot_at after source).counts.rows_given) (sym u.rows) metered.rows;
-          reach = subst (λ n. (use_at uses source).rows ≤ reach_of n settings.page settings.ahead (state_at states source).count) (sym u.want) (omega (arith, rows, same));
-          grades = subst (λ n. WentUp n (slot_at before source).counts.grades_given (slot_at after source).counts.grades_given) (sym u.grades) metered.grades;
-          once = subst (λ n. n ≤ (use_at uses source).asks) (sym u.grades) (subst (λ n. (slot_at after source).fetched.grades ≤ n) (sym u.asks) called.grades);
-          settled =
-              let grades : 0 + (slot_at after source).fetched.grades ≤ length (settled_in (feed_at feeds source).pass.1.seen) = metered.settled in
-              let log : length (settled_in (state_at states source).log) ≡ length (settled_in (feed_at feeds source).pass.1.seen)
-              = ap (λ log. length (settled_in log)) (h.closed.each source (there source s)).log in
-              let given = u.grades in
-              omega (arith, grades, log, given);
-          comes = came_closed (feed_at feeds source).pass.1 (hold_at pass source).pass.1 (state_at states source) (slot_at after source).fetched.rows (use_at uses source).rows
-              (h.closed.each source (there source s)) u.rows (metered.comes refl);
-        }
+  -- the queries that are refused for a fail of a kind, of which each worker was shown so many
+  few_refused : (what : FailKind) (source number : ℕ)
+      → ((y : Hand) → Contains hands y → min (count_by (is_refused_for what source) (stood_of (runs_by y))) last_count ≤ number)
+      → length those ≤ length readies → count_by (is_refused_for what source) those ≤ settings.workers * number
+  few_refused what source number each short =
+      let test = is_refused_for what source in
+      let all = few_in runs_by (λ (run : Run). run.stood) test last_count number hands each in
+      let some = rows_count (λ (run : Run). run.place) (λ (run : Run). run.stood) test 0 readies runs in
+      let those_few = count_by-le-length test those in
+      let few = h.few in
+      let total : count_by test those ≤ length hands * number =
+      few_by (count_by test those) (count_by test (stood_of runs)) last_count (length hands * number) (length those) all some those_few (omega (arith, few, short)) in
+      let many : length hands ≡ settings.workers = sym (length-map hands (λ (y : Hand). y.0)) ∙ (ap length all_hands.1 ∙ h.size) in
+      subst (λ n. count_by test those ≤ n * number) many total
 
-    reads : All (IsServed states) those → IsReadBy (slots_run settings counts readies before after) those states uses
-    reads served = record {
-      many = h.closed.size ∙ h.base_is.size;
-      closing = λ source s.
-          subst (λ t. IsClosing source (slice_index counts source) t (state_at states source)) (sym (told_before source s)) (closing source s);
-      served = served;
-      used = λ source s.
-          subst (λ c. IsUsed settings those source (state_at states source) c (counts_at (map (λ (slot : SlotState). slot.counts) after) source) (use_at uses source)) (sym (counts_before source s))
-          (subst (λ c. IsUsed settings those source (state_at states source) (slot_at before source).counts c (use_at uses source)) (sym (counts_now source s)) (used_by source s));
-    }
+  -- with how each query ended, in their order
+  module _ (places : List (Option Ended)) (endings : List Ended)
+      (placed : (place : ℕ) → slice_index_or places place None ≡ standing place (flat_map (λ (w : Worker). w.ended.items) workers) None)
+      (gathered : places ≡ map Some endings) (size : length places ≡ length readies) where
+    kept : flat_map (λ (w : Worker). w.ended.items) workers ≡ ended_of runs
+    kept =
+        ap (flat_map (λ (w : Worker). w.ended.items)) (sym all_hands.1)
+        ∙ (flat_map-map (λ (w : Worker). w.ended.items) (λ (y : Hand). y.0) hands ∙ (flat_same hands ∙ kept_in runs_by hands))
+      where
+        flat_same : (ys : List Hand) → flat_map (λ (y : Hand). y.0.ended.items) ys ≡ flat_map (λ (y : Hand). ended_of (runs_by y)) ys
+        flat_same [] = refl
+        flat_same (y ∷ ys) =
+            ap (λ es. es ++ flat_map (λ (z : Hand). z.0.ended.items) ys) y.1.at_work.worked.ended ∙ ap (λ es. ended_of (runs_by y) ++ es) (flat_same ys)
 
-  overs : (i : ℕ) (d : Worker) → i < length workers → (ready : Ready) (one : Option RunningQuery) → StoodIf (slice_index_or workers i d).pass ready one
-      → OverIf states ready one
-  overs i d l ready one is =
-      let size = h.base_is.size in
-      let own = (h.left i d l).own.size in
-      let closed = h.closed.size in
-      let long : length (slice_index_or workers i d).pass ≡ length counts = own ∙ size in
-      over_at states (slice_index_or workers i d).pass ready one (closed ∙ sym own)
-      (λ source s. ahead i d l source (subst (λ n. source < n) long s))
-      (λ source s. (closing source (subst (λ n. source < n) long s)).sound)
-      (λ source s. shut source (subst (λ n. source < n) long s)) is
+    long : length endings ≡ length readies
+    long = sym (length-map endings Some) ∙ (ap length (sym gathered) ∙ size)
 
-  -- how each query stood, whether it ended or not
-  module _ (p : Picked (BeganAt (length workers) readies) workers) where
-    over : HasShares (OverIf states) (length workers) 0 readies p.pick
-    over = whole_of (OverIf states) (length workers) 0 readies p.pick some
-        (λ i l.
-        let e = stands_at workers i l in
-        zip_map (StoodIf (slice_index_or workers i e.item).pass) (OverIf states) (overs i e.item l) (share_from (length workers) i 0 readies) (p.pick i) (p.is i e.item l).each)
+    each_ended : (i : ℕ) (d : Ready) (e : Ended) → i < length readies
+        → (q : RunningQuery) × (stood_at (0 + i) ≡ Some q) × IsEnded states (slice_index_or readies i d) (q, slice_index_or endings i e)
+    each_ended i d e l =
+        let at : slice_index_or places i None ≡ Some (slice_index_or endings i e) =
+        ap (λ os. slice_index_or os i None) gathered ∙ map_at Some endings i e None (omega (arith, l, long)) in
+        let is = sym (placed i ∙ ap (λ es. standing i es None) kept) ∙ at in
+        let run = run_standing i runs (slice_index_or endings i e) is in
+        let over = over_in run.0 run.1 in
+        let here : run.0.place ≡ 0 + i = let same = run.2 in omega (arith, same) in (
+          run.0.stood,
+          ap stood_at (sym here) ∙ run_stands run.0 run.1,
+          subst (λ n. IsEnded states (slice_index_or readies n d) (run.0.stood, slice_index_or endings i e)) run.2
+              (ended_so states (slice_index_or readies run.0.place d) run.0.stood run.0.ended (slice_index_or endings i e) run.3 (over.ended d)),
+        )
 
-    did_begun : (i : ℕ) (d : Worker) → i < length workers → (source : ℕ)
-        → DidOf (begun (share_from (length workers) i 0 over.whole)) source (hold_at (slice_index_or workers i d).pass source)
-    did_begun i d l source =
-        subst (λ xs. DidOf (begun xs) source (hold_at (slice_index_or workers i d).pass source)) (sym (over.shares i l)) ((p.is i d l).did source)
+    pairs : (ps : List End) × AllZip (IsEnded states) readies ps × (map (λ (p : End). p.1) ps ≡ endings) × (stood ≡ map (λ (p : End). Some p.0) ps)
+    pairs = paired (IsEnded states) stood_at 0 readies endings long each_ended
 
-    pub is_cut : IsCut (slots_run settings counts readies before after)
-    is_cut = record {
-      stood = over.whole;
-      states = states;
-      uses = uses;
-      of = zip_map (OverIf states) IsOfBegun (over_of states) readies over.whole over.follows;
-      read = reads over.whole did_begun (over_served states readies over.whole over.follows);
-    }
+    abbrev ends : List End
+    ends = pairs.0
 
-  -- with what each worker's queries came to
-  module _ (p : Picked (EndsAt (length workers) readies) workers) where
-    pub whole : HasShares (IsEnded states) (length workers) 0 readies p.pick
-    whole = whole_of (IsEnded states) (length workers) 0 readies p.pick some
-        (λ i l.
-        let e = stands_at workers i l in
-        zip_map (IsEndOf (slice_index_or workers i e.item).pass) (IsEnded states) (ended i e.item l) (share_from (length workers) i 0 readies) (p.pick i) (p.is i e.item l).ran.each)
+    those_are : those ≡ map (λ (end : End). end.0) ends
+    those_are = ap begun pairs.3 ∙ begun_ended ends
 
-    abbrev pub ends : List End
-    ends = whole.whole
+    follows : AllZip (IsEnded states) readies ends
+    follows = pairs.1
 
-    abbrev pub queries : List RunningQuery
-    queries = map (λ (end : End). end.0) ends
-
-    -- what a worker did, by its number
-    did : (i : ℕ) (d : Worker) → i < length workers → (source : ℕ)
-        → DidOf (map (λ (end : End). end.0) (share_from (length workers) i 0 ends)) source (hold_at (slice_index_or workers i d).pass source)
-    did i d l source =
-        subst (λ es. DidOf (map (λ (end : End). end.0) es) source (hold_at (slice_index_or workers i d).pass source)) (sym (whole.shares i l)) ((p.is i d l).ran.did source)
-
-    of_ended : AllZip IsOf readies queries
-    of_ended = zip_part (IsEnded states) IsOf (λ (end : End). end.0) (λ ready end is. is.of) readies ends whole.follows
-
-    served_all : All (IsServed states) queries
-    served_all = all_seconds (IsEnded states) (λ (end : End). end.0) (IsServed states) (λ ready end is. is.served) readies ends whole.follows
-
-    right_all : AllZip IsRight readies (map (λ (end : End). end.1) ends)
-    right_all = zip_part (IsEnded states) IsRight (λ (end : End). end.1) (λ ready end is. is.right) readies ends whole.follows
-
-    spared_all : All IsSpared queries
-    spared_all = all_seconds (IsEnded states) (λ (end : End). end.0) IsSpared (λ ready end is. is.spared) readies ends whole.follows
-
-    own_all : All (IsRefusedByTurns states) queries
-    own_all = all_seconds (IsEnded states) (λ (end : End). end.0) (IsRefusedByTurns states) (λ ready end is. is.own) readies ends whole.follows
-
-    ends_all : AllZip EndsAs queries (map (λ (end : End). end.1) ends)
-    ends_all = both_parts (IsEnded states) (λ (end : End). end.0) (λ (end : End). end.1) EndsAs (λ ready end is. is.ends) readies ends whole.follows
-
-    -- the queries that are refused for a fail of a kind, of which each worker was shown so many
-    few_refused : (what : FailKind) (source number : ℕ)
-        → ((i : ℕ) → i < length workers
-        → min (count_by (is_refused_for what source) (map (λ (end : End). end.0) (share_from (length workers) i 0 ends))) last_count ≤ number)
-        → count_by (is_refused_for what source) queries ≤ settings.workers * number
-    few_refused what source number each =
-        let test = is_refused_for what source in
-        let g : ℕ → ℕ = λ i. count_by test (map (λ (end : End). end.0) (share_from (length workers) i 0 ends)) in
-        let m : List End → ℕ = λ es. count_by test (map (λ (end : End). end.0) es) in
-        let bound : sum_up g (length workers) ≤ length workers * number = sum_up_bound g (length workers) number
-        (λ i l.
-        let one = each i l in
-        let short = count_by-le-length test (map (λ (end : End). end.0) (share_from (length workers) i 0 ends)) in
-        let mapped = length-map (share_from (length workers) i 0 ends) (λ (end : End). end.0) in
-        let of = share_long (length workers) i 0 ends in
-        let long : length ends ≡ length readies = AllZip-long (IsEnded states) readies ends whole.follows in
-        let few = h.few in
-        omega (arith, one, short, mapped, of, long, few)) in
-        let all : sum_up g (length workers) ≡ m ends =
-        shares_add (λ (end : End). cond (test end.0) 1 0) m refl (λ x es. sum_by-cons (λ q. cond (test q) 1 0) x.0 (map (λ (end : End). end.0) es)) (length workers) 0 ends some in
-        let total : count_by test queries ≤ length workers * number = omega (arith, bound, all) in
-        subst (λ n. count_by test queries ≤ n * number) h.size total
+    all_short : length those ≤ length readies
+    all_short =
+        let a = ap length those_are in
+        let b = length-map ends (λ (end : End). end.0) in
+        let c = AllZip-long (IsEnded states) readies ends follows in
+        omega (arith, a, b, c)
 
     counted : (source : ℕ) → source < length counts
-        → HasCounted settings.workers queries source (state_at states source) (slot_at before source).version (slot_at before source).counts (slot_at after source).counts
+        → HasCounted settings.workers those source (state_at states source) (slot_at before source).version (slot_at before source).counts (slot_at after source).counts
     counted source s =
         let metered = (h.fetched source s).metered in
         let tally : (feed_at feeds source).pass.1.tally ≡ (state_at states source).tally = sym (h.closed.each source (there source s)).tally in
@@ -592,24 +676,22 @@ module _ (pool : List TableId) (settings : Settings) (counts : List ℕ) (readie
           failed = record {
             rose = subst (λ n. RoseBy n (slot_at before source).counts.faults (slot_at after source).counts.faults) (ap (λ (t : Tally). t.failed - 0) tally ∙ omega arith) metered.failed;
             few = few_refused kind.Failed source (state_at states source).tally.failed
-                (λ i l.
-                let e = (stands_at workers i l).item in
-                let d = did i e l source in
+                (λ y c.
+                let d = y.1.at_work.worked.did source in
                 let shown = d.within.shown.failed in
-                let knew = (ahead i e l source s).tally.failed in
+                let knew = (ahead y c source s).tally.failed in
                 let mine = d.failed in
-                omega (arith, shown, knew, mine));
+                omega (arith, shown, knew, mine)) all_short;
           };
           garbled = record {
             rose = subst (λ n. RoseBy n (slot_at before source).counts.garbles (slot_at after source).counts.garbles) (ap (λ (t : Tally). t.garbled - 0) tally ∙ omega arith) metered.garbled;
             few = few_refused kind.Garbled source (state_at states source).tally.garbled
-                (λ i l.
-                let e = (stands_at workers i l).item in
-                let d = did i e l source in
+                (λ y c.
+                let d = y.1.at_work.worked.did source in
                 let shown = d.within.shown.garbled in
-                let knew = (ahead i e l source s).tally.garbled in
+                let knew = (ahead y c source s).tally.garbled in
                 let mine = d.garbled in
-                omega (arith, shown, knew, mine));
+                omega (arith, shown, knew, mine)) all_short;
           };
           moved = λ had other tells.
               elim ((h.fetched source s).moved had other (subst (λ log. TellsMove log had other) (h.closed.each source (there source s)).log tells)) [
@@ -618,44 +700,30 @@ module _ (pool : List TableId) (settings : Settings) (counts : List ℕ) (readie
               ];
         }
 
-    -- all of them began
-    abbrev began : List (Option RunningQuery)
-    began = map (λ (end : End). Some end.0) ends
+    -- the queries as they ended
+    abbrev queries : List RunningQuery
+    queries = map (λ (end : End). end.0) ends
 
-    did_ended : (i : ℕ) (d : Worker) → i < length workers → (source : ℕ)
-        → DidOf (begun (share_from (length workers) i 0 began)) source (hold_at (slice_index_or workers i d).pass source)
-    did_ended i d l source =
-        subst (λ qs. DidOf qs source (hold_at (slice_index_or workers i d).pass source))
-        (sym (ap begun (sym (share_map (λ (end : End). Some end.0) (length workers) i 0 ends)) ∙ begun_ended (share_from (length workers) i 0 ends)))
-        (did i d l source)
-
-    all_read : IsReadBy (slots_run settings counts readies before after) queries states uses
-    all_read =
-        subst (λ qs. IsReadBy (slots_run settings counts readies before after) qs states uses) (begun_ended ends)
-        (reads began did_ended (subst (All (IsServed states)) (sym (begun_ended ends)) served_all))
-
-    pub is_batch : IsBatch (slots_run settings counts readies before after) (batch_of (map (λ (end : End). end.1) ends) uses)
-    is_batch = let all = all_read in record {
-      states = states;
-      queries = queries;
-      many = all.many;
-      closing = all.closing;
-      of = of_ended;
-      served = served_all;
-      ends = ends_all;
-      right = right_all;
-      spared = spared_all;
-      own = own_all;
-      uses = h.uses_many;
-      used = all.used;
-      counted = λ source s.
-          subst (λ v. HasCounted settings.workers queries source (state_at states source) v (counts_at (map (λ (slot : SlotState). slot.counts) before) source) (counts_at (map (λ (slot : SlotState). slot.counts) after) source)) (sym (version_before source s))
-          (subst (λ c. HasCounted settings.workers queries source (state_at states source) (slot_at before source).version c (counts_at (map (λ (slot : SlotState). slot.counts) after) source)) (sym (counts_before source s))
-          (subst (λ c. HasCounted settings.workers queries source (state_at states source) (slot_at before source).version (slot_at before source).counts c) (sym (counts_now source s)) (counted source s)));
-    }
-
-    pub their_shares : AreShares (map (λ (end : End). end.1) ends) workers
-    their_shares = shares_of workers readies p ends whole.shares
-
-    pub as_many : length (map (λ (end : End). end.1) ends) ≡ length readies
-    as_many = length-map ends (λ (end : End). end.1) ∙ AllZip-long (IsEnded states) readies ends whole.follows
+    pub is_batch : IsBatch (slots_run settings counts readies before after) (batch_of endings uses)
+    is_batch = subst (λ es. IsBatch (slots_run settings counts readies before after) (batch_of es uses)) pairs.2
+        (record {
+          states = states;
+          queries = queries;
+          many = reads.many;
+          closing = reads.closing;
+          of = zip_part (IsEnded states) IsOf (λ (end : End). end.0) (λ ready end is. is.of) readies ends follows;
+          served = all_seconds (IsEnded states) (λ (end : End). end.0) (IsServed states) (λ ready end is. is.served) readies ends follows;
+          ends = both_parts (IsEnded states) (λ (end : End). end.0) (λ (end : End). end.1) EndsAs (λ ready end is. is.ends) readies ends follows;
+          right = zip_part (IsEnded states) IsRight (λ (end : End). end.1) (λ ready end is. is.right) readies ends follows;
+          spared = all_seconds (IsEnded states) (λ (end : End). end.0) IsSpared (λ ready end is. is.spared) readies ends follows;
+          own = all_seconds (IsEnded states) (λ (end : End). end.0) (IsRefusedByTurns states) (λ ready end is. is.own) readies ends follows;
+          uses = h.uses_many;
+          used = λ source s.
+              subst (λ qs. IsUsed settings qs source (state_at states source) (counts_at (map (λ (slot : SlotState). slot.counts) before) source) (counts_at (map (λ (slot : SlotState). slot.counts) after) source) (use_at uses source))
+              those_are (reads.used source s);
+          counted = λ source s.
+              subst (λ qs. HasCounted settings.workers qs source (state_at states source) (version_at (map (λ (slot : SlotState). slot.version) before) source) (counts_at (map (λ (slot : SlotState). slot.counts) before) source) (counts_at (map (λ (slot : SlotState). slot.counts) after) source)) those_are
+              (subst (λ v. HasCounted settings.workers those source (state_at states source) v (counts_at (map (λ (slot : SlotState). slot.counts) before) source) (counts_at (map (λ (slot : SlotState). slot.counts) after) source)) (sym (version_before source s))
+              (subst (λ c. HasCounted settings.workers those source (state_at states source) (slot_at before source).version c (counts_at (map (λ (slot : SlotState). slot.counts) after) source)) (sym (counts_before source s))
+              (subst (λ c. HasCounted settings.workers those source (state_at states source) (slot_at before source).version (slot_at before source).counts c) (sym (counts_now source s)) (counted source s))));
+        })

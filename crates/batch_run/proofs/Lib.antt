@@ -1,10 +1,8 @@
 -- Lemmas on feeders that are put into slots and taken back.
 pub mod LendLaws
--- Lemmas on shares of the queries, and on what a worker does with its share.
-pub mod SumLaws
-pub mod ShareLaws
-pub mod Picks
+-- Lemmas on what a worker does with the queries that it draws, and on items by their places.
 pub mod Zips
+pub mod AtPlaces
 pub mod WorkLaws
 -- Lemmas on who has passes to the posts, and on what was served at a slot.
 pub mod HandLaws

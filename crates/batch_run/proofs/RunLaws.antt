@@ -1,27 +1,20 @@
 -- A crew that has run, and lists and counts of the slots.
-use Rattle.std.proofs.Common.{◌≡◌, ◌≤◌, ◌<◌, vec_capacity, slice_index, ℕ, zero, suc, Bool, true, false, not, ◌||◌, Option, Result, Ok, Err, OnErr, List, [], ◌∷◌, length, map, All, slice_index_or, refl, sym, ap, subst, ◌∙◌, arith}
-use Rattle.std.specs.List.{AllZip, list_any}
-use Rattle.std.proofs.lemmas.List.{length-map}
+use Rattle.std.proofs.Common.{◌≡◌, ◌<◌, ℕ, suc, Option, Result, Ok, Err, OnErr, List, [], ◌∷◌, length, map, refl, sym, ap, subst, ◌∙◌, arith}
+use Rattle.std.specs.List.{AllZip}
 use Rattle.ranked_list.specs.declared.row.Row.{Row}
-use Rattle.atomic_table.specs.Seated.{TableId}
-use Rattle.source_pool.specs.declared.hold.Hold.{Hold}
-use Rattle.source_pool.specs.Passes.{hold_at, feed_at, IsPassOf, AreFeedersOf}
 use Rattle.source_api.specs.declared.counts.Counts.{Counts}
 use Rattle.source_api.specs.Counting.{NoneFell}
 use Rattle.fetcher.specs.declared.slot.Slot.{Slot}
 use Rattle.topk_base.specs.declared.settings.Settings.{Settings}
 use Rattle.query_core.specs.declared.ready.Ready.{Ready}
-use Rattle.batch_run.specs.declared.work.Worker.{Worker}
 use Rattle.batch_run.specs.Slots.{SlotState, states_of, slot_at, AllFetch, AreLent, AreTakenBack}
 use Rattle.batch_run.specs.Working.{AllWorked}
 use Rattle.batch_run.proofs.CrewLaws.{ran_parts}
 use Rattle.batch_run.proofs.SlotLaws.{all_fetched}
 use Rattle.batch_result.specs.Batches.{BatchRun, run_of}
 use Rattle.batch_run.specs.declared.hire.Crew.{Crew}
-use Rattle.batch_run.specs.Crews.{HasLeft, HasRun, IsBase, IsNewCrew, HasFetched}
+use Rattle.batch_run.specs.Crews.{HasRun, IsNewCrew}
 use Rattle.batch_run.specs.Finishing.{slots_run}
-use Rattle.batch_result.proofs.Places.{stands_at, map_at}
-use Rattle.batch_run.proofs.JoinLaws.{passes}
 
 module _ {S : Type 0} (list : S → Option (List Row)) (counts : S → Counts) (at_hand : S → ℕ) where
   -- the parts of the slots, at once and by their states
@@ -99,74 +92,31 @@ pub failed_so : {A E P Q : Type 0} (r : Result A E) → (P → Q) → OnErr r P 
 failed_so (Ok x) f h = tt
 failed_so (Err e) f h = f h
 
--- whether none ran out of memory, as it is told
-pub none_wants : (wants told : Bool) → told ≡ not wants → told ≡ true → wants ≡ false
-none_wants true told is enough = let bad : true ≡ false = sym enough ∙ is in absurd (cc)
-none_wants false told is enough = refl
-
--- no worker ran out of memory
-pub none_short : (workers : List Worker) → list_any (λ (w : Worker). w.short) workers ≡ false → (i : ℕ) (d : Worker) → i < length workers
-    → (slice_index_or workers i d).short ≡ false
-none_short [] e i d l = absurd (omega (arith, l))
-none_short (w ∷ workers) e zero d l = first_of (w.short) (list_any (λ (x : Worker). x.short) workers) e
-  where
-    first_of : (b c : Bool) → (b || c) ≡ false → b ≡ false
-    first_of true c e = e
-    first_of false c e = refl
-none_short (w ∷ workers) e (suc i) d l = none_short workers (rest_of w.short (list_any (λ (x : Worker). x.short) workers) e) i d (omega (arith, l))
-  where
-    rest_of : (b c : Bool) → (b || c) ≡ false → c ≡ false
-    rest_of true c e = absurd (cc)
-    rest_of false c e = e
-
--- passes that stay are still the pool's
-pub passes_own : (pool : List TableId) (old new : List Worker) → passes new ≡ passes old
-    → ((i : ℕ) (d : Worker) → i < length old → IsPassOf pool (slice_index_or old i d).pass)
-    → All (λ (worker : Worker). IsPassOf pool worker.pass) new
-passes_own pool old new same own i d l =
-    let long : length new ≡ length old = sym (length-map new (λ (w : Worker). w.pass)) ∙ (ap (length {A = List Hold}) same ∙ length-map old (λ (w : Worker). w.pass)) in
-    let within : i < length old = omega (arith, l, long) in
-    let e = (stands_at old i within).item in
-    let is : (slice_index_or new i d).pass ≡ (slice_index_or old i e).pass =
-    sym (map_at (λ (w : Worker). w.pass) new i d (slice_index_or new i d).pass l)
-    ∙ (ap (λ ps. slice_index_or ps i (slice_index_or new i d).pass) same ∙ map_at (λ (w : Worker). w.pass) old i e (slice_index_or new i d).pass within) in
-    subst (IsPassOf pool) (sym is) (own i e within)
-
--- the workers of a crew, by their number
-pub left_as : (pool : List TableId) (settings : Settings) (counts : List ℕ) (readies : List Ready) (workers : List Worker) → length workers ≡ settings.workers
-    → ((i : ℕ) (d : Worker) → i < length workers → HasLeft pool counts settings.workers readies i (slice_index_or workers i d))
-    → (i : ℕ) (d : Worker) → i < length workers → HasLeft pool counts (length workers) readies i (slice_index_or workers i d)
-left_as pool settings counts readies workers size each i d l = subst (λ n. HasLeft pool counts n readies i (slice_index_or workers i d)) (sym size) (each i d l)
-
-pub parts_left : (pool : List TableId) (settings : Settings) (counts : List ℕ) (readies : List Ready) (workers : List Worker)
-    → ((i : ℕ) (d : Worker) → i < length workers → HasLeft pool counts settings.workers readies i (slice_index_or workers i d))
-    → (i : ℕ) (d : Worker) → i < length workers → (source : ℕ) → source < length counts → (hold_at (slice_index_or workers i d).pass source).pass.1.parts ≡ 1
-parts_left pool settings counts readies workers each i d l source s = (each i d l).parts source s
-
 module _ {S : Type 0} (list : S → Option (List Row)) (counts : S → Counts) (at_hand : S → ℕ) where
   -- a new crew has run once its feeders were lent, its workers worked, and its feeders were taken back
   pub has_run : (settings : Settings) (sizes : List ℕ) (readies : List Ready) (crew now : Crew) (before lent fetched after : List (Slot S))
       → IsNewCrew sizes (length readies) settings.workers crew → length sizes ≡ length before
       → AreLent list counts at_hand crew.feeders.items before lent → AllFetch list counts at_hand crew.pool settings lent fetched
       → AreTakenBack list counts at_hand fetched now.feeders.items after
-      → AllWorked crew.pool (length crew.workers.items) readies crew.workers.items now.workers.items
-      → now.pool ≡ crew.pool → now.pass ≡ crew.pass → now.endings ≡ crew.endings → now.uses ≡ crew.uses
+      → AllWorked crew.pool crew.tickets readies crew.workers.items now.workers.items
+      → now ≡ record crew { feeders = now.feeders; workers = now.workers }
       → HasRun settings sizes readies (states_of list counts at_hand before) (states_of list counts at_hand after) now
-  has_run settings sizes readies crew now before lent fetched after new many given fetch back worked pool pass endings uses =
+  has_run settings sizes readies crew now before lent fetched after new many given fetch back worked same =
       let all = all_fetched list counts at_hand crew.pool settings sizes crew.feeders.items now.feeders.items before lent fetched after new.hiring.base.size many given fetch back new.fed in
-      let parts = ran_parts settings sizes readies crew.pool crew.pass crew.workers.items now.workers.items now.workers.items new.hiring new.size worked refl in
-      record {
-        base = subst (λ (z : List TableId × List Hold). IsBase z.0 sizes (length now.workers.items) z.1) (λ k. (sym pool k, sym pass k)) parts.base;
+      let parts = ran_parts settings sizes readies crew.pool crew.tickets crew.pass crew.draws crew.workers.items now.workers.items new.hiring new.size worked in
+      subst (HasRun settings sizes readies (states_of list counts at_hand before) (states_of list counts at_hand after)) (sym same)
+      (record {
+        base = parts.base;
+        first = parts.first;
         size = parts.size;
         slots = all.slots;
-        each = λ i d l. subst (λ (p : List TableId). HasLeft p sizes settings.workers readies i (slice_index_or now.workers.items i d)) (sym pool) (parts.each i d l);
-        feeders = subst (λ (p : List TableId). AreFeedersOf p now.feeders.items) (sym pool) all.feeders;
-        fetched = λ source l.
-            subst (λ (p : List TableId). HasFetched p settings source (slice_index sizes source) (slot_at (states_of list counts at_hand before) source)
-            (slot_at (states_of list counts at_hand after) source) (feed_at now.feeders.items source)) (sym pool) (all.fetched source l);
-        endings = (ap (λ v. v.items) endings ∙ new.endings.0, subst (λ n. length readies ≤ n) (sym (ap vec_capacity endings)) new.endings.1);
-        uses = (ap (λ v. v.items) uses ∙ new.uses.0, subst (λ n. length sizes ≤ n) (sym (ap vec_capacity uses)) new.uses.1);
-      }
+        each = parts.each;
+        feeders = all.feeders;
+        fetched = all.fetched;
+        places = new.places;
+        endings = new.endings;
+        uses = new.uses;
+      })
 
 module _ {S : Type 0} (list : S → Option (List Row)) (counts : S → Counts) (at_hand : S → ℕ) where
   -- what a run keeps of the sources

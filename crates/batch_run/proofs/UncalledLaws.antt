@@ -21,9 +21,8 @@ use Rattle.batch_result.specs.declared.batch.Use.{Use}
 use Rattle.batch_result.specs.Batches.{BatchRun, IsClosing, IsHonestFor, run_of, size_at, use_at}
 use Rattle.batch_result.specs.Numbered.{told_at, counts_at}
 use Rattle.batch_result.specs.Using.{IsUsed}
-use Rattle.batch_result.specs.Cut.{IsOfBegun, IsReadBy, IsCut}
+use Rattle.batch_result.specs.Cut.{IsOfBegun, IsReadBy, IsCut, begun}
 use Rattle.batch_result.proofs.Places.{map_at, stands_at}
-use Rattle.batch_run.proofs.WorkLaws.{nones, nones_begun}
 
 opened_is : (first : ℕ) (counts : List ℕ) (source : ℕ) → source < length counts
     → state_at (opened_from first counts) source ≡ opened (first + source) (size_at counts source)
@@ -78,6 +77,15 @@ used_nothing settings source count counts = record {
   settled = omega arith;
   comes = record { given = []; many = refl; comes = comes_none count };
 }
+
+-- none of some queries began
+abbrev nones : List Ready → List (Option RunningQuery)
+nones [] = []
+nones (ready ∷ readies) = None ∷ nones readies
+
+nones_begun : (readies : List Ready) → begun (nones readies) ≡ []
+nones_begun [] = refl
+nones_begun (ready ∷ readies) = nones_begun readies
 
 nones_of : (readies : List Ready) → AllZip IsOfBegun readies (nones readies)
 nones_of [] = tt

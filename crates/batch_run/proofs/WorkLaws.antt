@@ -1,20 +1,22 @@
 -- What a worker has done so far.
-use Rattle.std.proofs.Common.{◌≡◌, ◌≢◌, ◌≤◌, ◌<◌, ◌==◌, ◌&&◌, ◌+◌, ◌%◌, inl, inr, ℕ, min, Bool, true, false, cond, Option, Some, None, List, [], ◌∷◌, ◌++◌, length, map, take, reverse, All, Contains, count_by, slice_index_or, refl, sym, ap, subst, ◌∙◌, arith, le_trans}
-use Rattle.std.specs.List.{AllZip}
-use Rattle.std.proofs.lemmas.Bool.Decides.{eqb_tells}
-use Rattle.std.proofs.lemmas.List.{length-take, map-append}
-use Rattle.std.proofs.lemmas.List.{take_more, take_all}
-use Rattle.std.proofs.lemmas.List.Elements.{Contains-append_left, Contains-append_right, Contains-append_cases}
+use Rattle.std.proofs.Common.{◌≡◌, ◌≤◌, ◌<◌, ◌==◌, ◌&&◌, ◌+◌, inl, inr, ℕ, min, Bool, true, false, cond, Option, Some, None, List, [], ◌∷◌, ◌++◌, length, All, Contains, IfSome, count_by, slice_index_or, refl, sym, ap, subst, ◌∙◌, arith, le_trans}
+use Rattle.std.proofs.lemmas.Grind.{flat_map-append}
+use Rattle.std.proofs.lemmas.List.{map-append}
+use Rattle.std.proofs.lemmas.List.Elements.{All-append, Contains-append_left, Contains-append_right, Contains-append_cases}
 use Rattle.std.proofs.lemmas.List.Sums.{sum_by_push}
 use Rattle.topk_theory.proofs.AgreementLists.{contains_here, member_of_all, all_from_members}
+use Rattle.atomic_table.specs.Seated.{TableId}
 use Rattle.turn_lock.specs.declared.facts.Tally.{Tally}
+use Rattle.tickets.specs.declared.draws.Draws.{Draws}
+use Rattle.tickets.specs.Draws.{times, drawing}
+use Rattle.tickets.proofs.Drawing.{times_append}
 use Rattle.source_api.specs.declared.source.FailKind.TheVariants as kind
 use Rattle.source_state.specs.declared.look.LookFault.{LookFault}
 use Rattle.source_state.specs.declared.look.LookFault.TheVariants as why
 use Rattle.source_state.specs.State.{last_count}
 use Rattle.source_state.specs.Events.{one_more}
 use Rattle.source_pool.specs.declared.hold.Hold.{Hold}
-use Rattle.source_pool.specs.Passes.{hold_at}
+use Rattle.source_pool.specs.Passes.{hold_at, IsPassOf}
 use Rattle.source_pool.specs.Looks.{shown_fault}
 use Rattle.query_core.specs.declared.ready.Ready.{Ready}
 use Rattle.query_run.specs.declared.ended.Ended.{Ended}
@@ -23,18 +25,14 @@ use Rattle.query_run.specs.declared.ended.Refusal.TheVariants.{Core, Look}
 use Rattle.query_run.specs.declared.running_query.RunningQuery.{RunningQuery}
 use Rattle.query_run.specs.Endings.{IsRight}
 use Rattle.query_run.specs.Inquiries.{source_of}
-use Rattle.query_run.specs.Advancing.{KnowsMore, HasSourcesIn, IsSourceIn, KnowsAll, Advances}
+use Rattle.query_run.specs.Advancing.{KnowsMore, HasSourcesIn, IsSourceIn, KnowsAll, Advances, WaitsForNothing}
 use Rattle.query_run.specs.Asking.{AsksGradeOf, Wanted}
 use Rattle.query_run.specs.Ran.{Ran, RanSome, shown_to}
 use Rattle.query_run.proofs.KnowsLaws.{knows_same, knows_on, knows_advanced}
 use Rattle.batch_run.specs.declared.work.Worker.{Worker}
-use Rattle.batch_run.specs.Shares.{share, share_from}
 use Rattle.batch_result.specs.Using.{is_fail, refuses_for, is_refused_for, IsWantedBy, IsNamedBy}
-use Rattle.batch_result.specs.Cut.{begun}
-use Rattle.batch_run.specs.Working.{End, IsEndOf, StoodIf, DidOf, RanAll, RanOne, RanSo, HasBegun, HasWorked}
-use Rattle.batch_run.proofs.ShareLaws.{share_push, share_here, share_else}
-use Rattle.batch_run.proofs.Zips.{zip_push, zip_map}
-use Rattle.batch_result.proofs.Places.{stands_at}
+use Rattle.batch_run.specs.Working.{End, IsEndOf, IsStood, DidOf, Run, IsRunOf, ended_at, ended_of, places_of, stood_of, HasWorked, IsAtWork, Worked}
+use Rattle.batch_result.proofs.Places.{same_at}
 
 -- the sources of a query are still there
 pub sources_stay : (before after : List Hold) (ready : Ready) → KnowsAll before after → HasSourcesIn before ready → HasSourcesIn after ready
@@ -142,232 +140,183 @@ end_on before after knows ready end h = record {
   since = knows_on h.then_held before after h.since knows;
 }
 
--- a query that ended ran some way
-ran_ended : (ready : Ready) (before after : List Hold) (ended : Ended) → Ran ready before after ended → RanSome ready before after
-ran_ended ready before after ended ran = inr (ran.q, record { of = ran.of; served = ran.served; uses = ran.uses })
-
--- after one query more, which ended, or for which memory ran out
-pub ran_one : (ready : Ready) (before after : Worker) (pass : List Hold) (ended : Ended) → after.number ≡ before.number → after.pass ≡ pass
-    → (after.short ≡ false → after.ended.items ≡ before.ended.items ++ ended ∷ []) → Advances ready.sources.items before.pass pass
-    → Ran ready before.pass pass ended → IsRight ready ended → RanOne ready before after
-ran_one ready before after pass ended number is kept advances ran right = record {
-  number = number;
-  knows = subst (KnowsAll before.pass) (sym is) (knows_advanced ready.sources.items before.pass pass advances);
-  some = subst (RanSome ready before.pass) (sym is) (ran_ended ready before.pass pass ended ran);
-  ran = λ long. (ended, kept long, subst (λ holds. Ran ready before.pass holds ended) (sym is) ran, right);
-}
-
-pub ran_short : (ready : Ready) (before after : Worker) → after.number ≡ before.number → after.short ≡ true
-    → Advances ready.sources.items before.pass after.pass → RanSome ready before.pass after.pass → RanOne ready before after
-ran_short ready before after number short advances some = record {
-  number = number;
-  knows = knows_advanced ready.sources.items before.pass after.pass advances;
-  some = some;
-  ran = λ long. absurd (cc);
-}
-
-pub ran_nothing : (ready : Ready) (before after : Worker) → after.number ≡ before.number → after.pass ≡ before.pass → after.short ≡ true
-    → RanOne ready before after
-ran_nothing ready before after number same short = record {
-  number = number;
-  knows = subst (KnowsAll before.pass) (sym same) (knows_same before.pass);
-  some = inl same;
-  ran = λ long. absurd (cc);
-}
-
--- before any query
-pub ran_none : (workers : ℕ) (worker : Worker) → worker.ended.items ≡ [] → ((source : ℕ) → DidOf [] source (hold_at worker.pass source))
-    → RanSo workers [] worker
-ran_none workers worker none idle = record { ends = []; ran = record { each = tt; did = idle }; ended = none }
-
--- the share of the queries up to a place, and one more
-share_to : (workers number place : ℕ) (readies : List Ready) (ready : Ready) → place < length readies → ready ≡ slice_index_or readies place ready
-    → share workers number (take (place + 1) readies) ≡ share workers number (take place readies) ++ share_from workers number place (ready ∷ [])
-share_to workers number place readies ready l is =
-    ap (share workers number) (take_more readies place ready l ∙ ap (λ r. take place readies ++ r ∷ []) (sym is))
-    ∙ (share_push workers number 0 (take place readies) ready
-    ∙ ap (λ p. share workers number (take place readies) ++ share_from workers number p (ready ∷ [])) (let long = length-take place readies in omega (arith, long, l)))
-
-share_past : (workers number place : ℕ) (readies : List Ready) (ready : Ready) → place < length readies → ready ≡ slice_index_or readies place ready
-    → place % workers ≢ number → share workers number (take (place + 1) readies) ≡ share workers number (take place readies)
-share_past workers number place readies ready l is apart =
-    let nothing : share_from workers number place (ready ∷ []) ≡ [] = share_else workers number place ready [] apart in
-    share_to workers number place readies ready l is
-    ∙ (ap (λ r. share workers number (take place readies) ++ r) nothing ∙ no_more (share workers number (take place readies)))
-  where
-    no_more : (xs : List Ready) → xs ++ [] ≡ xs
-    no_more [] = refl
-    no_more (x ∷ xs) = ap (λ ys. x ∷ ys) (no_more xs)
-
--- a place of another worker
-pub ran_past : (workers place : ℕ) (readies : List Ready) (ready : Ready) (worker : Worker) → place < length readies
-    → ready ≡ slice_index_or readies place ready
-    → place % workers ≢ worker.number → RanSo workers (take place readies) worker → RanSo workers (take (place + 1) readies) worker
-ran_past workers place readies ready worker l is apart h =
-    let same = share_past workers worker.number place readies ready l is apart in
-    record { ends = h.ends; ran = subst (λ rs. RanAll rs worker h.ends) (sym same) h.ran; ended = h.ended }
-
--- a place of its own
-pub ran_next : (workers place : ℕ) (readies : List Ready) (ready : Ready) (before after : Worker) → place < length readies
-    → ready ≡ slice_index_or readies place ready
-    → place % workers ≡ before.number → RanOne ready before after → after.short ≡ false → RanSo workers (take place readies) before
-    → RanSo workers (take (place + 1) readies) after
-ran_next workers place readies ready before after l is own one long h =
-    let ran = one.ran long in
-    let q = ran.2.q in
-    let end : End = (q, ran.0) in
-    let here : share_from workers before.number place (ready ∷ []) ≡ ready ∷ [] = share_here workers before.number place ready [] own in
-    let shares : share workers after.number (take (place + 1) readies) ≡ share workers before.number (take place readies) ++ ready ∷ [] =
-    ap (λ n. share workers n (take (place + 1) readies)) one.number
-    ∙ (share_to workers before.number place readies ready l is ∙ ap (λ r. share workers before.number (take place readies) ++ r) here) in
-    let ended : IsEndOf after.pass ready end =
-    record {
-      of = ran.2.of;
-      ends = ran.2.ends;
-      right = ran.3;
-      spared = ran.2.spared;
-      first_held = before.pass;
-      then_held = after.pass;
-      served = ran.2.served;
-      later = ran.2.uses.since;
-      why = ran.2.why;
-      since = knows_same after.pass;
-    } in
-    record {
-      ends = h.ends ++ end ∷ [];
-      ran = record {
-        each = subst (λ rs. AllZip (IsEndOf after.pass) rs (h.ends ++ end ∷ [])) (sym shares)
-            (zip_push (IsEndOf after.pass) (share workers before.number (take place readies)) h.ends ready end
-            (zip_map (IsEndOf before.pass) (IsEndOf after.pass) (end_on before.pass after.pass one.knows) (share workers before.number (take place readies)) h.ends h.ran.each) ended);
-        did = λ source. subst (λ qs. DidOf qs source (hold_at after.pass source)) (sym (map-append (λ (e : End). e.0) h.ends (end ∷ [])))
-            (did_more (map (λ (e : End). e.0) h.ends) q source (hold_at before.pass source) (hold_at after.pass source) (h.ran.did source) (one.knows.each source)
-            (ran.2.uses.shown source) (ran.2.uses.wanted source));
-      };
-      ended = ran.1 ∙ (ap (λ es. es ++ ran.0 ∷ []) h.ended ∙ sym (map-append (λ (e : End). e.1) h.ends (end ∷ [])));
-    }
-
--- once it has worked
-pub has_worked : (workers place : ℕ) (readies : List Ready) (before after : Worker) → length readies ≤ place → after.number ≡ before.number
-    → after.pass ≡ before.pass
-    → after.ended.items ≡ reverse before.ended.items → RanSo workers (take place readies) before → HasWorked workers readies after
-has_worked workers place readies before after all number pass back h = record {
-  ends = h.ends;
-  ran = record {
-    each = subst (λ holds. AllZip (IsEndOf holds) (share workers after.number readies) h.ends) (sym pass)
-        (subst (λ n. AllZip (IsEndOf before.pass) (share workers n readies) h.ends) (sym number)
-        (subst (λ rs. AllZip (IsEndOf before.pass) (share workers before.number rs) h.ends) (take_all place readies all) h.ran.each));
-    did = subst (λ holds. (source : ℕ) → DidOf (map (λ (e : End). e.0) h.ends) source (hold_at holds source)) (sym pass) h.ran.did;
-  };
-  ended = back ∙ ap reverse h.ended;
-}
-
 pub all_sources_stay : (before after : List Hold) (readies : List Ready) → KnowsAll before after → All (HasSourcesIn before) readies
     → All (HasSourcesIn after) readies
 all_sources_stay before after readies knows h i d l = sources_stay before after (slice_index_or readies i d) knows (h i d l)
 
--- a place that is passed by
-pub passed_by : (workers place : ℕ) (readies : List Ready) (worker : Worker) → place < length readies → place % workers ≢ worker.number
-    → RanSo workers (take place readies) worker → RanSo workers (take (place + 1) readies) worker
-passed_by workers place readies worker l apart h =
-    let ready = stands_at readies place l in
-    ran_past workers place readies ready.item worker l ready.is apart h
+-- runs over a pass that came to know more
+stood_on : (before after : List Hold) → KnowsAll before after → (ready : Ready) (q : RunningQuery) → IsStood before ready q → IsStood after ready q
+stood_on before after knows ready q h = record { of = h.of; then_held = h.then_held; served = h.served; since = knows_on h.then_held before after h.since knows }
 
--- ---- the queries that began
-begun_push : (stood : List (Option RunningQuery)) (one : Option RunningQuery) → begun (stood ++ one ∷ []) ≡ begun stood ++ begun (one ∷ [])
-begun_push [] one = refl
-begun_push (None ∷ stood) one = begun_push stood one
-begun_push (Some q ∷ stood) one = ap (λ qs. q ∷ qs) (begun_push stood one)
+ended_on : (before after : List Hold) → KnowsAll before after → (ready : Ready) (q : RunningQuery) (ended : Option Ended)
+    → IfSome ended (λ (e : Ended). IsEndOf before ready (q, e)) → IfSome ended (λ (e : Ended). IsEndOf after ready (q, e))
+ended_on before after knows ready q None h = tt
+ended_on before after knows ready q (Some e) h = end_on before after knows ready (q, e) h
+
+run_on : (before after : List Hold) (readies : List Ready) → KnowsAll before after → (run : Run) → IsRunOf before readies run → IsRunOf after readies run
+run_on before after readies knows run h = record {
+  there = h.there;
+  stood = λ d. stood_on before after knows (slice_index_or readies run.place d) run.stood (h.stood d);
+  ended = λ d. ended_on before after knows (slice_index_or readies run.place d) run.stood run.ended (h.ended d);
+}
+
+-- a worker that did nothing yet
+pub worked_none : (readies : List Ready) (worker : Worker) → worker.ended.items ≡ [] → ((source : ℕ) → DidOf [] source (hold_at worker.pass source))
+    → HasWorked readies worker
+worked_none readies worker none idle = record {
+  runs = [];
+  each = λ i d l. absurd (omega (arith, l));
+  drawn = λ number. omega arith;
+  did = idle;
+  ended = none;
+}
+
+-- a worker that may begin stays so while it runs
+pub worked_same : (pool : List TableId) (tickets : TableId) (readies : List Ready) (worker : Worker) → IsAtWork pool tickets readies worker
+    → Worked pool tickets readies worker worker
+worked_same pool tickets readies worker h = record { at_work = h; knows = knows_same worker.pass }
+
+pub worked_on : (pool : List TableId) (tickets : TableId) (readies : List Ready) (first before after : Worker) → Worked pool tickets readies first before
+    → Worked pool tickets readies before after → Worked pool tickets readies first after
+worked_on pool tickets readies first before after h more = record { at_work = more.at_work; knows = knows_on first.pass before.pass after.pass h.knows more.knows }
+
+-- nothing was drawn
+pub drew_nothing : (pool : List TableId) (tickets : TableId) (readies : List Ready) (before after : Worker) → after.pass ≡ before.pass
+    → after.draws ≡ before.draws → after.ended.items ≡ before.ended.items → IsAtWork pool tickets readies before → Worked pool tickets readies before after
+drew_nothing pool tickets readies before after pass draws ended h = record {
+  at_work = record {
+    ready = h.ready;
+    own = subst (IsPassOf pool) (sym pass) h.own;
+    rests = subst WaitsForNothing (sym pass) h.rests;
+    sources = subst (λ (holds : List Hold). All (HasSourcesIn holds) readies) (sym pass) h.sources;
+    draws = subst (λ (d : TableId × Draws). (d.0 ≡ tickets) × (d.1.parts ≡ 1)) (sym draws) h.draws;
+    worked = record {
+      runs = h.worked.runs;
+      each = subst (λ (holds : List Hold). All (IsRunOf holds readies) h.worked.runs) (sym pass) h.worked.each;
+      drawn = λ number. subst (λ (d : TableId × Draws). times number (places_of h.worked.runs) ≤ times number d.1.drawn) (sym draws) (h.worked.drawn number);
+      did = λ source. subst (λ (holds : List Hold). DidOf (stood_of h.worked.runs) source (hold_at holds source)) (sym pass) (h.worked.did source);
+      ended = ended ∙ h.worked.ended;
+    };
+  };
+  knows = subst (KnowsAll before.pass) (sym pass) (knows_same before.pass);
+}
+
+-- what a pass holds after a query, which it may rely on
+pub record Left (pool : List TableId) (ready : Ready) (before after : List Hold) : Type 0 where
+  pub own : IsPassOf pool after
+  pub rests : WaitsForNothing after
+  pub advances : Advances ready.sources.items before after
+
+-- a number was drawn, and the query of its place left these runs
+drew : (pool : List TableId) (tickets : TableId) (readies : List Ready) (before after : Worker) (number : ℕ) (ready : Ready) (news : List Run)
+    → after.draws ≡ (tickets, drawing number before.draws.1) → Left pool ready before.pass after.pass
+    → All (IsRunOf after.pass readies) news → ((n : ℕ) → times n (places_of news) ≤ times n (number ∷ []))
+    → ((queries : List RunningQuery) → ((source : ℕ) → DidOf queries source (hold_at before.pass source)) → (source : ℕ)
+    → DidOf (queries ++ stood_of news) source (hold_at after.pass source))
+    → after.ended.items ≡ before.ended.items ++ ended_of news → IsAtWork pool tickets readies before → Worked pool tickets readies before after
+drew pool tickets readies before after number ready news draws left each once did ended h =
+    let knows = knows_advanced ready.sources.items before.pass after.pass left.advances in
+    let runs = h.worked.runs in
+    record {
+      at_work = record {
+        ready = h.ready;
+        own = left.own;
+        rests = left.rests;
+        sources = all_sources_stay before.pass after.pass readies knows h.sources;
+        draws = (ap (λ (d : TableId × Draws). d.0) draws, ap (λ (d : TableId × Draws). d.1.parts) draws ∙ h.draws.1);
+        worked = record {
+          runs = runs ++ news;
+          each = All-append (IsRunOf after.pass readies) runs news (λ i d l. run_on before.pass after.pass readies knows (slice_index_or runs i d) (h.worked.each i d l)) each;
+          drawn = λ n.
+              let all : times n (places_of (runs ++ news)) ≡ times n (places_of runs) + times n (places_of news) =
+              ap (times n) (map-append (λ (run : Run). run.place) runs news) ∙ times_append n (places_of runs) (places_of news) in
+              let now : times n after.draws.1.drawn ≡ times n before.draws.1.drawn + times n (number ∷ []) =
+              ap (λ (d : TableId × Draws). times n d.1.drawn) draws ∙ times_append n before.draws.1.drawn (number ∷ []) in
+              let was = h.worked.drawn n in
+              let new = once n in
+              omega (arith, all, now, was, new);
+          did = λ source.
+              subst (λ qs. DidOf qs source (hold_at after.pass source)) (sym (map-append (λ (run : Run). run.stood) runs news)) (did (stood_of runs) h.worked.did source);
+          ended = ended ∙ (ap (λ es. es ++ ended_of news) h.worked.ended ∙ sym (flat_map-append (λ (run : Run). ended_at run.place run.ended) runs news));
+        };
+      };
+      knows = knows;
+    }
+
+one_run : (holds : List Hold) (readies : List Ready) (run : Run) → IsRunOf holds readies run → All (IsRunOf holds readies) (run ∷ [])
+one_run holds readies run h = λ i d l. at_first i d l
+  where
+    at_first : (i : ℕ) (d : Run) → i < 1 → IsRunOf holds readies (slice_index_or (run ∷ []) i d)
+    at_first i d l = let first : 0 ≡ i = omega (arith, l) in subst (λ n. IsRunOf holds readies (slice_index_or (run ∷ []) n d)) first h
+
+-- the query at a place, whatever stands elsewhere
+at_place : (P : Ready → Type 0) (readies : List Ready) (place : ℕ) (ready d : Ready) → place < length readies → ready ≡ slice_index_or readies place ready
+    → P ready → P (slice_index_or readies place d)
+at_place P readies place ready d l is h = subst P (is ∙ same_at readies place ready d l) h
+
+once_drawn : (place number n : ℕ) → place ≡ number → times n (place ∷ []) ≤ times n (number ∷ [])
+once_drawn place number n e = subst (λ m. times n (place ∷ []) ≤ times n (m ∷ [])) e (omega arith)
+
+-- the query that was drawn ended
+pub drew_one : (pool : List TableId) (tickets : TableId) (readies : List Ready) (before after : Worker) (number place : ℕ) (ready : Ready) (ended : Ended)
+    → after.draws ≡ (tickets, drawing number before.draws.1) → place ≡ number → place < length readies → ready ≡ slice_index_or readies place ready
+    → Left pool ready before.pass after.pass → Ran ready before.pass after.pass ended → IsRight ready ended
+    → after.ended.items ≡ before.ended.items ++ record { place = place; answer = ended } ∷ []
+    → IsAtWork pool tickets readies before → Worked pool tickets readies before after
+drew_one pool tickets readies before after number place ready ended draws same there is left ran right kept h =
+    let run : Run = record { place = place; stood = ran.q; ended = Some ended } in
+    let knows = knows_advanced ready.sources.items before.pass after.pass left.advances in
+    drew pool tickets readies before after number ready (run ∷ []) draws left
+    (one_run after.pass readies run (record {
+      there = there;
+      stood = λ d. at_place (λ r. IsStood after.pass r ran.q) readies place ready d there is
+          (record { of = ran.of; then_held = after.pass; served = ran.served; since = knows_same after.pass });
+      ended = λ d. at_place (λ r. IsEndOf after.pass r (ran.q, ended)) readies place ready d there is
+          (record {
+            of = ran.of;
+            ends = ran.ends;
+            right = right;
+            spared = ran.spared;
+            first_held = before.pass;
+            then_held = after.pass;
+            served = ran.served;
+            later = ran.uses.since;
+            why = ran.why;
+            since = knows_same after.pass;
+          });
+    }))
+    (λ n. once_drawn place number n same)
+    (λ queries did source. did_more queries ran.q source (hold_at before.pass source) (hold_at after.pass source) (did source) (knows.each source) (ran.uses.shown source) (ran.uses.wanted source))
+    kept h
 
 no_query_more : (qs : List RunningQuery) → qs ++ [] ≡ qs
 no_query_more [] = refl
 no_query_more (q ∷ qs) = ap (λ rs. q ∷ rs) (no_query_more qs)
 
-stood_on : (before after : List Hold) → KnowsAll before after → (ready : Ready) (one : Option RunningQuery) → StoodIf before ready one → StoodIf after ready one
-stood_on before after knows ready None h = tt
-stood_on before after knows ready (Some q) h = record { of = h.of; then_held = h.then_held; served = h.served; since = knows_on h.then_held before after h.since knows }
+no_end_more : {A : Type 0} (xs : List A) → xs ++ [] ≡ xs
+no_end_more [] = refl
+no_end_more (x ∷ xs) = ap (λ ys. x ∷ ys) (no_end_more xs)
 
--- before any query
-pub begun_none : (workers : ℕ) (worker : Worker) → ((source : ℕ) → DidOf [] source (hold_at worker.pass source)) → HasBegun workers [] worker
-begun_none workers worker idle = record { stood = []; each = tt; did = idle }
-
--- none of some queries began
-abbrev pub nones : List Ready → List (Option RunningQuery)
-nones [] = []
-nones (ready ∷ readies) = None ∷ nones readies
-
-nones_stood : (holds : List Hold) (readies : List Ready) → AllZip (StoodIf holds) readies (nones readies)
-nones_stood holds [] = tt
-nones_stood holds (ready ∷ readies) = (tt, nones_stood holds readies)
-
-pub nones_begun : (readies : List Ready) → begun (nones readies) ≡ []
-nones_begun [] = refl
-nones_begun (ready ∷ readies) = nones_begun readies
-
-pub begun_idle : (workers : ℕ) (readies : List Ready) (worker : Worker) → ((source : ℕ) → DidOf [] source (hold_at worker.pass source))
-    → HasBegun workers readies worker
-begun_idle workers readies worker idle =
-    let mine = share workers worker.number readies in
-    record {
-      stood = nones mine;
-      each = nones_stood worker.pass mine;
-      did = λ source. subst (λ qs. DidOf qs source (hold_at worker.pass source)) (sym (nones_begun mine)) (idle source);
-    }
-
--- the share grew by a query, which stood so
-begun_more : (workers place : ℕ) (readies : List Ready) (ready : Ready) (before after : Worker) (one : Option RunningQuery) → place < length readies
-    → ready ≡ slice_index_or readies place ready
-    → place % workers ≡ before.number → after.number ≡ before.number → KnowsAll before.pass after.pass → (h : HasBegun workers (take place readies) before)
-    → StoodIf after.pass ready one → ((source : ℕ) → DidOf (begun h.stood ++ begun (one ∷ [])) source (hold_at after.pass source))
-    → HasBegun workers (take (place + 1) readies) after
-begun_more workers place readies ready before after one l is own number knows h stands did =
-    let here : share_from workers before.number place (ready ∷ []) ≡ ready ∷ [] = share_here workers before.number place ready [] own in
-    let shares : share workers after.number (take (place + 1) readies) ≡ share workers before.number (take place readies) ++ ready ∷ [] =
-    ap (λ n. share workers n (take (place + 1) readies)) number
-    ∙ (share_to workers before.number place readies ready l is ∙ ap (λ r. share workers before.number (take place readies) ++ r) here) in
-    record {
-      stood = h.stood ++ one ∷ [];
-      each = subst (λ rs. AllZip (StoodIf after.pass) rs (h.stood ++ one ∷ [])) (sym shares)
-          (zip_push (StoodIf after.pass) (share workers before.number (take place readies)) h.stood ready one
-          (zip_map (StoodIf before.pass) (StoodIf after.pass) (stood_on before.pass after.pass knows) (share workers before.number (take place readies)) h.stood h.each) stands);
-      did = λ source. subst (λ qs. DidOf qs source (hold_at after.pass source)) (sym (begun_push h.stood one)) (did source);
-    }
-
-pub begun_next : (workers place : ℕ) (readies : List Ready) (ready : Ready) (before after : Worker) → place < length readies
-    → ready ≡ slice_index_or readies place ready
-    → place % workers ≡ before.number → after.number ≡ before.number → KnowsAll before.pass after.pass → RanSome ready before.pass after.pass
-    → HasBegun workers (take place readies) before → HasBegun workers (take (place + 1) readies) after
-begun_next workers place readies ready before after l is own number knows (inl same) h =
-    begun_more workers place readies ready before after None l is own number knows h tt
-    (λ source. subst (λ qs. DidOf qs source (hold_at after.pass source)) (sym (no_query_more (begun h.stood)))
-    (subst (λ (holds : List Hold). DidOf (begun h.stood) source (hold_at holds source)) (sym same) (h.did source)))
-begun_next workers place readies ready before after l is own number knows (inr some) h =
-    begun_more workers place readies ready before after (Some some.0) l is own number knows h
-    (record { of = some.1.of; then_held = after.pass; served = some.1.served; since = knows_same after.pass })
-    (λ source. did_more (begun h.stood) some.0 source (hold_at before.pass source) (hold_at after.pass source) (h.did source) (knows.each source)
-    (some.1.uses.shown source) (some.1.uses.wanted source))
-
--- a place whose query isn't run
-pub begun_skip : (workers place : ℕ) (readies : List Ready) (worker : Worker) → place < length readies → HasBegun workers (take place readies) worker
-    → HasBegun workers (take (place + 1) readies) worker
-begun_skip workers place readies worker l h =
-    let ready = stands_at readies place l in
-    elim (eqb_tells (place % workers) worker.number) [
-      | inl own ↦ begun_next workers place readies ready.item worker worker l ready.is own.1 refl (knows_same worker.pass) (inl refl) h
-      | inr apart ↦
-          let same = share_past workers worker.number place readies ready.item l ready.is apart.1 in
-          record { stood = h.stood; each = subst (λ rs. AllZip (StoodIf worker.pass) rs h.stood) (sym same) h.each; did = h.did }
-    ]
-
--- once it has worked
-pub begun_worked : (workers place : ℕ) (readies : List Ready) (before after : Worker) → length readies ≤ place → after.number ≡ before.number
-    → after.pass ≡ before.pass → HasBegun workers (take place readies) before → HasBegun workers readies after
-begun_worked workers place readies before after all number pass h = record {
-  stood = h.stood;
-  each = subst (λ holds. AllZip (StoodIf holds) (share workers after.number readies) h.stood) (sym pass)
-      (subst (λ n. AllZip (StoodIf before.pass) (share workers n readies) h.stood) (sym number)
-      (subst (λ rs. AllZip (StoodIf before.pass) (share workers before.number rs) h.stood) (take_all place readies all) h.each));
-  did = subst (λ holds. (source : ℕ) → DidOf (begun h.stood) source (hold_at holds source)) (sym pass) h.did;
-}
-
-pub short_not : (short : Bool) → short ≡ true → short ≡ false → ⊥
-short_not short is not_so = let bad : true ≡ false = sym is ∙ not_so in cc
+-- memory ran out for the query that was drawn
+pub drew_short : (pool : List TableId) (tickets : TableId) (readies : List Ready) (before after : Worker) (number place : ℕ) (ready : Ready)
+    → after.draws ≡ (tickets, drawing number before.draws.1) → place ≡ number → place < length readies → ready ≡ slice_index_or readies place ready
+    → Left pool ready before.pass after.pass → RanSome ready before.pass after.pass → after.ended.items ≡ before.ended.items
+    → IsAtWork pool tickets readies before → Worked pool tickets readies before after
+drew_short pool tickets readies before after number place ready draws same there is left (inl stays) kept h =
+    drew pool tickets readies before after number ready [] draws left (λ i d l. absurd (omega (arith, l))) (λ n. omega arith)
+    (λ queries did source. subst (λ qs. DidOf qs source (hold_at after.pass source)) (sym (no_query_more queries))
+    (subst (λ (holds : List Hold). DidOf queries source (hold_at holds source)) (sym stays) (did source)))
+    (kept ∙ sym (no_end_more before.ended.items)) h
+drew_short pool tickets readies before after number place ready draws same there is left (inr some) kept h =
+    let run : Run = record { place = place; stood = some.0; ended = None } in
+    let knows = knows_advanced ready.sources.items before.pass after.pass left.advances in
+    drew pool tickets readies before after number ready (run ∷ []) draws left
+    (one_run after.pass readies run (record {
+      there = there;
+      stood = λ d. at_place (λ r. IsStood after.pass r some.0) readies place ready d there is
+          (record { of = some.1.of; then_held = after.pass; served = some.1.served; since = knows_same after.pass });
+      ended = λ d. tt;
+    }))
+    (λ n. once_drawn place number n same)
+    (λ queries did source. did_more queries some.0 source (hold_at before.pass source) (hold_at after.pass source) (did source) (knows.each source) (some.1.uses.shown source) (some.1.uses.wanted source))
+    (kept ∙ sym (no_end_more before.ended.items)) h

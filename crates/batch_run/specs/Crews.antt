@@ -1,8 +1,10 @@
 -- What a crew is before it runs and after it, and how its passes come together.
-use Rattle.std.specs.Prelude.{◌≡◌, ◌≤◌, ◌<◌, ◌+◌, ◌⊎◌, [], ℕ, false, List, Contains, length, slice_index, vec_capacity}
+use Rattle.std.specs.Prelude.{◌≡◌, ◌≤◌, ◌<◌, ◌+◌, ◌⊎◌, [], ℕ, None, List, Contains, length, slice_index, replicate, vec_capacity}
 use Rattle.std.specs.List.{slice_index_or, sum_by}
 use Rattle.atomic_table.specs.Seated.{TableId}
 use Rattle.turn_lock.specs.Known.{all_parts, Follows}
+use Rattle.tickets.specs.declared.draws.Draws.{Draws}
+use Rattle.tickets.specs.Draws.{all_parts as all_draws, fresh as fresh_draws}
 use Rattle.source_pool.specs.declared.hold.Hold.{Hold}
 use Rattle.source_pool.specs.Passes.{Feed, lock_at, hold_at, feed_at, IsPassOf, AreFeedersOf}
 use Rattle.source_pool.specs.HoldSharing.{new_hold}
@@ -17,18 +19,18 @@ use Rattle.batch_result.specs.Using.{IsReplaced}
 use Rattle.topk_base.specs.declared.settings.Settings.{Settings}
 use Rattle.batch_run.specs.declared.work.Worker.{Worker}
 use Rattle.batch_run.specs.declared.hire.Crew.{Crew}
-use Rattle.batch_run.specs.Working.{HasBegun, HasWorked}
+use Rattle.batch_run.specs.Working.{IsAtWork}
 use Rattle.batch_run.specs.Slots.{SlotState, slot_at}
 
 -- what a worker's pass holds of a source before it works: it did nothing yet, and waits for nothing
 abbrev pub fresh_hold : List TableId → List ℕ → ℕ → Hold
 fresh_hold pool counts source = new_hold (first_hold (lock_at pool source) source (slice_index counts source))
 
--- a worker that was hired, with a pass of this pool
-pub record IsHired (pool : List TableId) (counts : List ℕ) (number : ℕ) (worker : Worker) : Type 0 where
-  pub number_is : worker.number ≡ number
+-- a worker that was hired, with a pass of this pool and one of these tickets, which drew nothing
+pub record IsHired (pool : List TableId) (tickets : TableId) (counts : List ℕ) (worker : Worker) : Type 0 where
   pub own : IsPassOf pool worker.pass
   pub fresh : (source : ℕ) → source < length counts → hold_at worker.pass source ≡ fresh_hold pool counts source
+  pub draws : worker.draws ≡ (tickets, fresh_draws 1)
   pub none : worker.ended.items ≡ []
 
 -- the first pass of a pool after so many passes were split off: it has all other parts but the feeder's one, did nothing, and is one that
@@ -42,28 +44,33 @@ pub record IsBase (pool : List TableId) (counts : List ℕ) (given : ℕ) (holds
   pub mine : (source : ℕ) → source < length counts → (hold_at holds source).pass.1.mine ≡ []
   pub gives : (source : ℕ) → source < length counts → new_hold (hold_at holds source) ≡ fresh_hold pool counts source
 
+-- the first pass of these tickets after so many of their parts were split off: it drew nothing
+pub record IsFirst (tickets : TableId) (given : ℕ) (draws : TableId × Draws) : Type 0 where
+  pub of : draws.0 ≡ tickets
+  pub parts : draws.1.parts + given ≡ all_draws
+  pub none : draws.1.drawn ≡ []
+
 -- so many workers were hired
-pub record IsHiring (pool : List TableId) (counts : List ℕ) (holds : List Hold) (workers : List Worker) : Type 0 where
+pub record IsHiring (pool : List TableId) (tickets : TableId) (counts : List ℕ) (holds : List Hold) (draws : TableId × Draws) (workers : List Worker) : Type 0 where
   pub base : IsBase pool counts (length workers) holds
-  pub each : (i : ℕ) (d : Worker) → i < length workers → IsHired pool counts i (slice_index_or workers i d)
+  pub first : IsFirst tickets (length workers) draws
+  pub each : (i : ℕ) (d : Worker) → i < length workers → IsHired pool tickets counts (slice_index_or workers i d)
 
 -- a crew for sources with these counts and for so many queries, with so many workers
 pub record IsNewCrew (counts : List ℕ) (queries workers : ℕ) (crew : Crew) : Type 0 where
-  pub hiring : IsHiring crew.pool counts crew.pass crew.workers.items
+  pub hiring : IsHiring crew.pool crew.tickets counts crew.pass crew.draws crew.workers.items
   pub size : length crew.workers.items ≡ workers
   pub feeders : AreFeedersOf crew.pool crew.feeders.items
   pub fed : (source : ℕ) → source < length counts → feed_at crew.feeders.items source ≡ first_feed (lock_at crew.pool source) source (slice_index counts source)
+  pub places : crew.places.items ≡ replicate queries None
   pub endings : (crew.endings.items ≡ []) × (queries ≤ vec_capacity crew.endings)
   pub uses : (crew.uses.items ≡ []) × (length counts ≤ vec_capacity crew.uses)
 
--- what a worker leaves: its pass has one part of each source, it ran some of its share of the queries, and all of it where memory wasn't wanted
-pub record HasLeft (pool : List TableId) (counts : List ℕ) (workers : ℕ) (readies : List Ready) (number : ℕ) (worker : Worker) : Type 0 where
-  pub own : IsPassOf pool worker.pass
-  pub number_is : worker.number ≡ number
+-- what a worker leaves: its pass has one part of each source, and it ran some of the queries
+pub record HasLeft (pool : List TableId) (tickets : TableId) (counts : List ℕ) (readies : List Ready) (worker : Worker) : Type 0 where
+  pub at_work : IsAtWork pool tickets readies worker
   pub name : (source : ℕ) → source < length counts → (hold_at worker.pass source).pass.1.name ≡ (source, slice_index counts source)
   pub parts : (source : ℕ) → source < length counts → (hold_at worker.pass source).pass.1.parts ≡ 1
-  pub began : HasBegun workers readies worker
-  pub worked : worker.short ≡ false → HasWorked workers readies worker
 
 -- what a fetcher did of the source of a number, which has so many objects, between what stood in its slot before and what stands there now
 pub record HasFetched (pool : List TableId) (settings : Settings) (source count : ℕ) (before after : SlotState) (feed : Feed) : Type 0 where
@@ -77,15 +84,17 @@ pub record HasFetched (pool : List TableId) (settings : Settings) (source count 
       (first_feed (lock_at pool source) source count).pass.1 feed.pass.1
   pub moved : MovesOnly (IsReplaced before.version before.counts after.counts) (first_feed (lock_at pool source) source count).pass.1.seen feed.pass.1.seen
 
--- a crew that has run: its first pass did nothing, each worker left its share, and each feeder fetched
+-- a crew that has run: its first passes did nothing, each worker ran some of the queries, and each feeder fetched
 pub record HasRun (settings : Settings) (counts : List ℕ) (readies : List Ready) (before after : List SlotState) (crew : Crew) : Type 0 where
   pub base : IsBase crew.pool counts (length crew.workers.items) crew.pass
+  pub first : IsFirst crew.tickets (length crew.workers.items) crew.draws
   pub size : length crew.workers.items ≡ settings.workers
   pub slots : (length before ≡ length counts) × (length after ≡ length counts)
-  pub each : (i : ℕ) (d : Worker) → i < length crew.workers.items → HasLeft crew.pool counts settings.workers readies i (slice_index_or crew.workers.items i d)
+  pub each : (i : ℕ) (d : Worker) → i < length crew.workers.items → HasLeft crew.pool crew.tickets counts readies (slice_index_or crew.workers.items i d)
   pub feeders : AreFeedersOf crew.pool crew.feeders.items
   pub fetched : (source : ℕ) → source < length counts
       → HasFetched crew.pool settings source (slice_index counts source) (slot_at before source) (slot_at after source) (feed_at crew.feeders.items source)
+  pub places : crew.places.items ≡ replicate (length readies) None
   pub endings : (crew.endings.items ≡ []) × (length readies ≤ vec_capacity crew.endings)
   pub uses : (crew.uses.items ≡ []) × (length counts ≤ vec_capacity crew.uses)
 

@@ -1,5 +1,5 @@
 -- What the hands of a run leave.
-use Rattle.std.specs.Prelude.{◌≡◌, ◌<◌, ℕ, true, List, length}
+use Rattle.std.specs.Prelude.{◌≡◌, ◌<◌, ℕ, List, length}
 use Rattle.std.specs.List.{slice_index_or}
 use Rattle.atomic_table.specs.Seated.{TableId}
 use Rattle.query_core.specs.declared.ready.Ready.{Ready}
@@ -10,13 +10,8 @@ use Rattle.fetcher.specs.declared.post.Began.{Began}
 use Rattle.batch_run.specs.Working.{Worked}
 
 -- all workers have worked, at their places, and their passes to the posts stay
-pub record AllHands {S : Type 0} (pool : List TableId) (workers : ℕ) (readies : List Ready) (before after : List (Hand Worker (Slot S) (Began S))) : Type 0 where
+pub record AllHands {S : Type 0} (pool : List TableId) (tickets : TableId) (readies : List Ready) (before after : List (Hand Worker (Slot S) (Began S))) : Type 0 where
   pub size : length after ≡ length before
   pub worked : (i : ℕ) (d : Hand Worker (Slot S) (Began S)) → i < length before
-      → Worked pool workers readies (slice_index_or before i d).worker (slice_index_or after i d).worker
+      → Worked pool tickets readies (slice_index_or before i d).worker (slice_index_or after i d).worker
   pub passes : (i : ℕ) (d : Hand Worker (Slot S) (Began S)) → i < length before → (slice_index_or after i d).pass ≡ (slice_index_or before i d).pass
-
--- all workers are short of memory, and else stay
-pub record AreSpared (before after : List Worker) : Type 0 where
-  pub size : length after ≡ length before
-  pub each : (i : ℕ) (d : Worker) → i < length before → slice_index_or after i d ≡ record (slice_index_or before i d) { short = true }

@@ -1,8 +1,10 @@
--- What a worker does with its share of the queries.
-use Rattle.std.specs.Prelude.{◌≡◌, ◌≤◌, ◌<◌, ◌++◌, ◌∷◌, [], ℕ, min, false, Option, List, All, Contains, IfSome, length, map, reverse, count_by}
-use Rattle.std.specs.List.{AllZip, slice_index_or}
+-- What a worker does with the queries that it draws.
+use Rattle.std.specs.Prelude.{◌≡◌, ◌≤◌, ◌<◌, ◌∷◌, [], ℕ, min, Option, Some, None, List, All, Contains, IfSome, length, map, count_by}
+use Rattle.std.specs.List.{flat_map, slice_index_or}
 use Rattle.atomic_table.specs.Seated.{TableId}
 use Rattle.turn_lock.specs.Facts.{AtMost}
+use Rattle.tickets.specs.declared.placing.Done.{Done}
+use Rattle.tickets.specs.Draws.{times}
 use Rattle.source_api.specs.declared.source.FailKind.TheVariants as kind
 use Rattle.source_state.specs.State.{last_count}
 use Rattle.source_pool.specs.declared.hold.Hold.{Hold}
@@ -19,12 +21,9 @@ use Rattle.query_run.specs.Endings.{EndsAs, IsRight}
 use Rattle.query_run.specs.Seen.{states_seen}
 use Rattle.query_run.specs.Advancing.{WaitsForNothing, HasSourcesIn, KnowsAll}
 use Rattle.query_run.specs.Failing.{LookRefused}
-use Rattle.query_run.specs.Ran.{Ran, RanSome}
 use Rattle.batch_run.specs.declared.work.Worker.{Worker}
-use Rattle.batch_run.specs.Shares.{share}
 use Rattle.batch_result.specs.Using.{is_refused_for, IsWantedBy, IsNamedBy}
 use Rattle.batch_result.specs.Batches.{IsSpared}
-use Rattle.batch_result.specs.Cut.{begun}
 
 -- a query as it stood at its end, and its ending
 abbrev pub End : Type 0
@@ -51,10 +50,6 @@ pub record IsStood (holds : List Hold) (ready : Ready) (q : RunningQuery) : Type
   pub served : IsServed (states_seen then_held) q
   pub since : KnowsAll then_held holds
 
--- a ready query stood so, if it began
-abbrev pub StoodIf : List Hold → Ready → Option RunningQuery → Type 0
-StoodIf holds ready stood = IfSome stood (IsStood holds ready)
-
 -- what these queries did of a source through a pass: it was raised no further than is certain for one of them, each ask that was added is for an object
 -- whose grade is certain for one of them, and each of them that was refused for a fail was shown one, which the pass knows of
 pub record DidOf (queries : List RunningQuery) (source : ℕ) (hold : Hold) : Type 0 where
@@ -64,55 +59,55 @@ pub record DidOf (queries : List RunningQuery) (source : ℕ) (hold : Hold) : Ty
   pub garbled : min (count_by (is_refused_for kind.Garbled source) queries) last_count ≤ hold.shown.garbled
   pub within : IsWithin hold
 
--- these queries ended so, and did this
-pub record RanAll (readies : List Ready) (worker : Worker) (ends : List End) : Type 0 where
-  pub each : AllZip (IsEndOf worker.pass) readies ends
-  pub did : (source : ℕ) → DidOf (map (λ end. end.0) ends) source (hold_at worker.pass source)
+-- a query that began: its place, how it stood when it ended or was let go, and how it ended, if it did
+pub record Run : Type 0 where
+  pub place : ℕ
+  pub stood : RunningQuery
+  pub ended : Option Ended
 
--- a worker may begin: it did nothing yet
-pub record IsAtWork (pool : List TableId) (workers : ℕ) (readies : List Ready) (worker : Worker) : Type 0 where
-  pub some : 1 ≤ workers
+-- the query of this place stood so, and ended so if it did
+pub record IsRunOf (holds : List Hold) (readies : List Ready) (run : Run) : Type 0 where
+  pub there : run.place < length readies
+  pub stood : (default : Ready) → IsStood holds (slice_index_or readies run.place default) run.stood
+  pub ended : (default : Ready) → IfSome run.ended (λ ended. IsEndOf holds (slice_index_or readies run.place default) (run.stood, ended))
+
+-- how these queries ended, those that did, each with its place
+abbrev pub ended_at : ℕ → Option Ended → List (Done Ended)
+ended_at place None = []
+ended_at place (Some ended) = record { place = place; answer = ended } ∷ []
+
+abbrev pub ended_of : List Run → List (Done Ended)
+ended_of runs = flat_map (λ (run : Run). ended_at run.place run.ended) runs
+
+abbrev pub places_of : List Run → List ℕ
+places_of runs = map (λ (run : Run). run.place) runs
+
+abbrev pub stood_of : List Run → List RunningQuery
+stood_of runs = map (λ (run : Run). run.stood) runs
+
+-- a worker so far: of the queries that it drew these began, each no more often than it was drawn; they did this, and it keeps how they ended
+pub record HasWorked (readies : List Ready) (worker : Worker) : Type 0 where
+  pub runs : List Run
+  pub each : All (IsRunOf worker.pass readies) runs
+  pub drawn : (number : ℕ) → times number (places_of runs) ≤ times number worker.draws.1.drawn
+  pub did : (source : ℕ) → DidOf (stood_of runs) source (hold_at worker.pass source)
+  pub ended : worker.ended.items ≡ ended_of runs
+
+-- a worker with a pass of this pool, which waits for nothing, and one part of these tickets: it may run any of these queries, and has run some
+pub record IsAtWork (pool : List TableId) (tickets : TableId) (readies : List Ready) (worker : Worker) : Type 0 where
   pub ready : All IsReady readies
   pub own : IsPassOf pool worker.pass
   pub rests : WaitsForNothing worker.pass
   pub sources : All (HasSourcesIn worker.pass) readies
-  pub none : worker.ended.items ≡ []
-  pub idle : (source : ℕ) → DidOf [] source (hold_at worker.pass source)
+  pub draws : (worker.draws.0 ≡ tickets) × (worker.draws.1.parts ≡ 1)
+  pub worked : HasWorked readies worker
 
--- a worker after one more query, which ran some way if it began: memory ran out, or the query ended so
-pub record RanOne (ready : Ready) (before after : Worker) : Type 0 where
-  pub number : after.number ≡ before.number
+-- a worker later on
+pub record Worked (pool : List TableId) (tickets : TableId) (readies : List Ready) (before after : Worker) : Type 0 where
+  pub at_work : IsAtWork pool tickets readies after
   pub knows : KnowsAll before.pass after.pass
-  pub some : RanSome ready before.pass after.pass
-  pub ran : after.short ≡ false
-      → (ended : Ended) × (after.ended.items ≡ before.ended.items ++ ended ∷ []) × Ran ready before.pass after.pass ended × IsRight ready ended
-
--- a worker that ran its share of these queries, in their order
-pub record RanSo (workers : ℕ) (readies : List Ready) (worker : Worker) : Type 0 where
-  pub ends : List End
-  pub ran : RanAll (share workers worker.number readies) worker ends
-  pub ended : worker.ended.items ≡ map (λ end. end.1) ends
-
--- a worker that ran some of its share of these queries: they stood so, and did this
-pub record HasBegun (workers : ℕ) (readies : List Ready) (worker : Worker) : Type 0 where
-  pub stood : List (Option RunningQuery)
-  pub each : AllZip (StoodIf worker.pass) (share workers worker.number readies) stood
-  pub did : (source : ℕ) → DidOf (begun stood) source (hold_at worker.pass source)
-
--- a worker once it has worked: memory ran out, or the queries of its share ended so, the last one first
-pub record HasWorked (workers : ℕ) (readies : List Ready) (worker : Worker) : Type 0 where
-  pub ends : List End
-  pub ran : RanAll (share workers worker.number readies) worker ends
-  pub ended : worker.ended.items ≡ reverse (map (λ end. end.1) ends)
-
-pub record Worked (pool : List TableId) (workers : ℕ) (readies : List Ready) (before after : Worker) : Type 0 where
-  pub number : after.number ≡ before.number
-  pub own : IsPassOf pool after.pass
-  pub knows : KnowsAll before.pass after.pass
-  pub began : HasBegun workers readies after
-  pub worked : after.short ≡ false → HasWorked workers readies after
 
 -- all workers, at their places
-pub record AllWorked (pool : List TableId) (workers : ℕ) (readies : List Ready) (before after : List Worker) : Type 0 where
+pub record AllWorked (pool : List TableId) (tickets : TableId) (readies : List Ready) (before after : List Worker) : Type 0 where
   pub size : length after ≡ length before
-  pub each : (i : ℕ) (d : Worker) → i < length before → Worked pool workers readies (slice_index_or before i d) (slice_index_or after i d)
+  pub each : (i : ℕ) (d : Worker) → i < length before → Worked pool tickets readies (slice_index_or before i d) (slice_index_or after i d)

@@ -1,73 +1,37 @@
 //! What a crew gives once it has run.
 
-ghost use Rattle.std.specs.Prelude.{◌≡◌, ◌≤◌, ◌<◌, [], ◌∷◌, ◌++◌, ℕ, true, false, not, List, length, map, IfOk, OnErr, vec_len, vec_capacity};
-ghost use Rattle.std.specs.List.{list_any};
+ghost use Rattle.std.specs.Prelude.{◌≡◌, ◌≤◌, ◌<◌, [], ℕ, true, Some, List, length, map, is_some, IfOk, OnErr, vec_len, vec_capacity};
+ghost use Rattle.std.specs.List.{list_all};
 ghost use Rattle.source_state.specs.State.{state_at};
 ghost use Rattle.query_core.specs.declared.ready.Ready.{Ready};
-ghost use Rattle.query_run.specs.declared.ended.Ended.{Ended as EndedOf};
 ghost use Rattle.topk_base.specs.declared.settings.Settings.{Settings};
 ghost use Rattle.batch_run.specs.Slots.{SlotState, states_of, slot_at};
 ghost use Rattle.batch_result.specs.Batches.{IsBatch, use_at};
 ghost use Rattle.batch_result.specs.Cut.{IsCut};
-ghost use Rattle.batch_run.specs.Finishing.{slots_run, CanFinish, AreShares, UsedOf};
+ghost use Rattle.batch_run.specs.Finishing.{slots_run, CanFinish, UsedOf};
 
 use super::hire::Crew;
 use super::joining::rejoin;
-use super::work::Worker;
 use batch_result::{Batch, Use};
 use fetcher::{Fetched, Slot};
 use query_run::{Ended, Memory};
 use source_api::Source;
 use source_pool::{Feeders, States};
 
-/// Takes how the next query of a worker ended.
-fn next_of(worker: &mut Worker) -> Ended
-    requires { 0 < vec_len worker.old.ended }
-    ensures ended { worker.old.ended.items ≡ worker.new.ended.items ++ result ∷ [] }
-    ensures pass { worker.new.pass ≡ worker.old.pass }
-{
-    worker.ended.pop().unwrap()
-}
-
-/// Takes how the queries ended from the workers, in the order of the queries.
-fn gather(workers: &mut Vec<Worker>, count: usize, endings: &mut Vec<Ended>)
-    requires shares { (whole : List EndedOf) × (length whole ≡ count) × AreShares whole workers.old.items }
-    requires some { 0 < vec_len workers.old }
+/// Moves how the queries ended out of their places, in their order. Whether each has ended.
+fn gather(mut places: Vec<Option<Ended>>, endings: &mut Vec<Ended>) -> bool
     requires none { endings.old.items ≡ [] }
-    requires room { count ≤ vec_capacity endings.old }
-    ensures gathered { (whole : List EndedOf) → length whole ≡ count → AreShares whole workers.old.items → endings.new.items ≡ whole }
-    ensures passes { map (λ worker. worker.pass) workers.new.items ≡ map (λ worker. worker.pass) workers.old.items }
-    ensures filled { vec_len endings.new ≡ count }
+    requires room { vec_len places ≤ vec_capacity endings.old }
+    ensures all { result ≡ list_all is_some places.items }
+    ensures moved { result ≡ true → places.items ≡ map Some endings.new.items }
 {
-    let all = workers.len();
-    for place in 0..count {
-        let ended = next_of(&mut workers[place % all]);
+    places.reverse();
+    while let Some(place) = places.pop() {
+        let Some(ended) = place else {
+            return false;
+        };
         endings.push_reserved(ended);
     }
-}
-
-/// Whether a worker ran out of memory.
-fn is_short(workers: &Vec<Worker>) -> bool
-    ensures { result ≡ list_any (λ worker. worker.short) workers.now.items }
-{
-    workers.iter().any(|worker| worker.short)
-}
-
-/// Takes how the queries ended from the workers where none of them ran out of memory. Whether that is so.
-fn gather_all(workers: &mut Vec<Worker>, count: usize, endings: &mut Vec<Ended>) -> bool
-    requires shares { list_any (λ worker. worker.short) workers.old.items ≡ false → (whole : List EndedOf) × (length whole ≡ count) × AreShares whole workers.old.items }
-    requires some { 0 < vec_len workers.old }
-    requires none { endings.old.items ≡ [] }
-    requires room { count ≤ vec_capacity endings.old }
-    ensures enough { result ≡ not (list_any (λ worker. worker.short) workers.old.items) }
-    ensures gathered { result ≡ true → (whole : List EndedOf) → length whole ≡ count → AreShares whole workers.old.items → endings.new.items ≡ whole }
-    ensures passes { map (λ worker. worker.pass) workers.new.items ≡ map (λ worker. worker.pass) workers.old.items }
-    ensures filled { result ≡ true → vec_len endings.new ≡ count }
-{
-    if is_short(workers) {
-        return false;
-    }
-    gather(workers, count, endings);
     true
 }
 
@@ -99,35 +63,34 @@ fn use_all<S: Source>(states: &States, slots: &[Slot<S>], uses: &mut Vec<Use>)
     }
 }
 
-/// What the batch gives, once its crew has run; none where a worker ran out of memory. The pool is closed in either case.
-pub(crate) fn finish<S: Source>(
-    crew: Crew,
-    slots: &[Slot<S>],
-    queries: usize,
-) -> Result<Batch, Memory>
+/// What the batch gives, once its crew has run; none where a query hasn't ended, since memory ran out. The pool is closed in either case.
+pub(crate) fn finish<S: Source>(crew: Crew, slots: &[Slot<S>]) -> Result<Batch, Memory>
     requires { (settings : Settings) × (counts : List ℕ) × (readies : List Ready) × (before : List SlotState)
-        × CanFinish settings counts readies before (states_of S.list S.counts S.at_hand slots.now) queries crew }
+        × CanFinish settings counts readies before (states_of S.list S.counts S.at_hand slots.now) crew }
     ensures batch { IfOk result (λ batch. (settings : Settings) (counts : List ℕ) (readies : List Ready) (before : List SlotState)
-        → CanFinish settings counts readies before (states_of S.list S.counts S.at_hand slots.now) queries crew
+        → CanFinish settings counts readies before (states_of S.list S.counts S.at_hand slots.now) crew
         → IsBatch (slots_run settings counts readies before (states_of S.list S.counts S.at_hand slots.now)) batch) }
     ensures cut { OnErr result ((settings : Settings) (counts : List ℕ) (readies : List Ready) (before : List SlotState)
-        → CanFinish settings counts readies before (states_of S.list S.counts S.at_hand slots.now) queries crew
+        → CanFinish settings counts readies before (states_of S.list S.counts S.at_hand slots.now) crew
         → IsCut (slots_run settings counts readies before (states_of S.list S.counts S.at_hand slots.now))) }
 {
     let Crew {
         pool,
         mut pass,
+        tickets,
+        mut draws,
         feeders,
-        mut workers,
+        workers,
+        mut places,
         mut endings,
         mut uses,
     } = crew;
-    let enough = gather_all(&mut workers, queries, &mut endings);
-    rejoin(&pool, &mut pass, workers);
+    rejoin(&pool, &mut pass, &tickets, &mut draws, workers, &mut places);
+    tickets.close(draws);
     let states = pool.close(pass, Feeders::from_vec(feeders));
     use_all(&states, slots, &mut uses);
     drop(states);
-    if !enough {
+    if !gather(places, &mut endings) {
         drop(endings);
         drop(uses);
         return Err(Memory);

@@ -1,6 +1,6 @@
 //! Workers, and what a run needs before it begins.
 
-ghost use Rattle.std.specs.Prelude.{◌≡◌, ◌≤◌, ◌<◌, ◌+◌, ◌^◌, [], ℕ, List, All, length, IfOk, OnOk, vec_len, vec_capacity};
+ghost use Rattle.std.specs.Prelude.{◌≡◌, ◌≤◌, ◌<◌, ◌+◌, ◌^◌, [], ℕ, None, List, All, length, replicate, IfOk, OnOk, vec_len, vec_capacity};
 ghost use Rattle.source_pool.specs.Passes.{IsPassOf};
 ghost use Rattle.batch_run.specs.Crews.{IsHiring, IsNewCrew};
 
@@ -8,52 +8,58 @@ use super::work::Worker;
 use batch_result::Use;
 use query_run::{Ended, Memory};
 use source_pool::{Feeder, Pool, PoolPass};
-use std::alloc::Global;
+use std::alloc::{AllocError, Global};
+use tickets::{TicketPass, Tickets};
 use topk_base::MAX_OBJECTS;
 
-/// The pool of a batch with its first pass and its feeders, the workers, and room for what the batch gives.
+/// The pool of a batch with its first pass and its feeders, the tickets for its queries, the workers, and room for what the batch gives.
 #[derive(Drop)]
 pub struct Crew {
     /// The sources, each behind a lock of its own.
     pub pool: Pool,
     /// The first pass, of which the workers' passes were split off.
     pub pass: PoolPass,
+    /// The places of the queries, of which each worker draws the next one.
+    pub tickets: Tickets,
+    /// The first pass of the tickets, of which the workers' passes were split off.
+    pub draws: TicketPass,
     /// The feeder of each source.
     pub feeders: Vec<Feeder>,
-    /// The workers, each at the place of its number.
+    /// The workers.
     pub workers: Vec<Worker>,
-    /// Room for how the queries end.
+    /// The place of each query, where its ending is put.
+    pub places: Vec<Option<Ended>>,
+    /// Room for how the queries end, in their order.
     pub endings: Vec<Ended>,
     /// Room for what is used of the sources.
     pub uses: Vec<Use>,
 }
 
-/// One more worker, for whom there is room. The first pass gives it a pass of its own.
+/// One more worker, for whom there is room. The first passes give it passes of its own.
 fn hire_next(
     alloc: Global,
     pool: &Pool,
     pass: &mut PoolPass,
+    tickets: &Tickets,
+    draws: &mut TicketPass,
     workers: &mut Vec<Worker>,
-    number: u32,
 ) -> Result<(), Memory>
-    requires number { number ≡ vec_len workers.old }
-    requires few { number < 32 }
+    requires few { vec_len workers.old < 32 }
     requires room { vec_len workers.old < vec_capacity workers.old }
     requires own { IsPassOf pool.now pass.old }
-    requires hiring { (counts : List ℕ) × IsHiring pool.now counts pass.old workers.old.items }
-    ensures hired { OnOk result ((counts : List ℕ) → IsHiring pool.now counts pass.old workers.old.items
-        → IsHiring pool.now counts pass.new workers.new.items) }
-    ensures size { OnOk result (vec_len workers.new ≡ number + 1) }
+    requires hiring { (counts : List ℕ) × IsHiring pool.now tickets.now counts pass.old draws.old workers.old.items }
+    ensures hired { OnOk result ((counts : List ℕ) → IsHiring pool.now tickets.now counts pass.old draws.old workers.old.items
+        → IsHiring pool.now tickets.now counts pass.new draws.new workers.new.items) }
+    ensures size { OnOk result (vec_len workers.new ≡ vec_len workers.old + 1) }
     ensures room { vec_capacity workers.new ≡ vec_capacity workers.old }
 {
-    let Ok(new) = pool.split(alloc, pass) else {
+    let Ok(own) = pool.split(alloc, pass) else {
         return Err(Memory);
     };
     workers.push_reserved(Worker {
-        number,
-        pass: new,
+        pass: own,
+        draws: tickets.split(draws, 1),
         ended: Vec::new(alloc),
-        short: false,
     });
     Ok(())
 }
@@ -63,23 +69,36 @@ fn hire(
     alloc: Global,
     pool: &Pool,
     pass: &mut PoolPass,
+    tickets: &Tickets,
+    draws: &mut TicketPass,
     workers: &mut Vec<Worker>,
     count: u32,
 ) -> Result<(), Memory>
     requires few { count ≤ 32 }
     requires none { workers.old.items ≡ [] }
-    requires own { (counts : List ℕ) × IsHiring pool.now counts pass.old workers.old.items }
-    ensures hired { OnOk result ((counts : List ℕ) → IsHiring pool.now counts pass.old workers.old.items
-        → IsHiring pool.now counts pass.new workers.new.items) }
+    requires own { (counts : List ℕ) × IsHiring pool.now tickets.now counts pass.old draws.old workers.old.items }
+    ensures hired { OnOk result ((counts : List ℕ) → IsHiring pool.now tickets.now counts pass.old draws.old workers.old.items
+        → IsHiring pool.now tickets.now counts pass.new draws.new workers.new.items) }
     ensures size { OnOk result (vec_len workers.new ≡ count) }
 {
     let Ok(()) = workers.reserve(count as usize) else {
         return Err(Memory);
     };
-    for number in 0..count {
-        hire_next(alloc, pool, pass, workers, number)?;
+    for _ in 0..count {
+        hire_next(alloc, pool, pass, tickets, draws, workers)?;
     }
     Ok(())
+}
+
+/// So many places, at which nothing stands yet.
+fn empty_places(alloc: Global, queries: usize) -> Result<Vec<Option<Ended>>, AllocError>
+    ensures { IfOk result (λ places. places.items ≡ replicate queries None) }
+{
+    let mut places = Vec::with_capacity(alloc, queries)?;
+    for _ in 0..queries {
+        places.push_reserved(None);
+    }
+    Ok(places)
 }
 
 /// Makes room for the endings of so many queries, and for what is used of so many sources.
@@ -111,14 +130,23 @@ impl Crew {
         requires workers { workers ≤ 32 }
         ensures { IfOk result (IsNewCrew counts.now queries workers) }
     {
+        let Ok((tickets, draws)) = Tickets::open(alloc) else {
+            return Err(Memory);
+        };
+        let Ok(places) = empty_places(alloc, queries) else {
+            return Err(Memory);
+        };
         let Ok((pool, pass, feeders)) = Pool::open(alloc, counts) else {
             return Err(Memory);
         };
         let mut crew = Crew {
             pool,
             pass,
+            tickets,
+            draws,
             feeders: feeders.into_vec(),
             workers: Vec::new(alloc),
+            places,
             endings: Vec::new(alloc),
             uses: Vec::new(alloc),
         };
@@ -130,6 +158,8 @@ impl Crew {
             alloc,
             &crew.pool,
             &mut crew.pass,
+            &crew.tickets,
+            &mut crew.draws,
             &mut crew.workers,
             workers,
         ) else {

@@ -24,15 +24,14 @@ use std::thread::Threads;
 use topk_base::MAX_OBJECTS;
 
 /// Runs all queries over the sources, those of the same numbers, which have so many objects each: as many workers as the settings say, at
-/// the same time, and beside them one fetcher a source. A worker runs, one after another and in their order, the queries whose place
-/// from 0 leaves its own number as the remainder. What it needs of a source and no other thread fetches it fetches itself, so that no
-/// query needs another thread; the fetchers read ahead. A call may wait for ever.
+/// the same time, and beside them one fetcher a source. The next free worker takes the next query. What it needs of a source and no other
+/// thread fetches it fetches itself, so that no query needs another thread; the fetchers read ahead. A call may wait for ever.
 ///
 /// A batch comes only once all queries have ended. Where memory ran out there is none; what the sources gave by then is within the same
 /// bounds, those of what the queries that had begun asked for, and nothing where none had.
 ///
 /// *Cost*: a pool, a pass for each worker, a lock of the slots, and room for the endings; then each query one `run_query_by`, each source
-/// the turns that its queries need and those that read ahead; at the end a join for each worker, `Pool::close`, and one pass over the endings.
+/// the turns that its queries need and those that read ahead; at the end a join for each worker, `Pool::close`, and two passes over the endings.
 pub fn run_all<W: Threads + Wait + Sync, S: Source>(
     rt: &W,
     alloc: Global,
@@ -62,11 +61,12 @@ pub fn run_all<W: Threads + Wait + Sync, S: Source>(
         rt,
         alloc,
         &crew.pool,
+        &crew.tickets,
         &mut crew.workers,
         sources,
         queries,
         settings,
     );
     take_back(sources.as_mut_slice(), &mut crew.feeders);
-    finish(crew, sources, queries.len())
+    finish(crew, sources)
 }

@@ -3,6 +3,7 @@ use Rattle.std.proofs.Common.{◌≡◌, ◌<◌, ℕ, List, [], All, length, sl
 use Rattle.atomic_table.specs.Seated.{TableId}
 use Rattle.source_pool.specs.declared.hold.Hold.{Hold}
 use Rattle.source_pool.specs.Passes.{hold_at}
+use Rattle.batch_run.specs.declared.hire.Crew.{Crew}
 use Rattle.batch_run.specs.declared.work.Worker.{Worker}
 use Rattle.batch_run.specs.Crews.{IsHired, IsHiring}
 use Rattle.batch_run.proofs.CrewLaws.{hired_at_work}
@@ -21,17 +22,17 @@ is_there counts holds (Opened count source version) size named counted = (
 is_there counts holds NotOpened size named counted = tt
 is_there counts holds (TooLarge count) size named counted = tt
 
-may_answer : (o : Openings) (counts : List ℕ) (pool : List TableId) (number : ℕ) (worker : Worker) → length pool ≡ length counts → IsHired pool counts number worker
-    → All (IsCounted counts) o.entries → MayAnswer o pool worker.pass
-may_answer o counts pool number worker size hired counted = record {
+may_answer : (o : Openings) (counts : List ℕ) (pool : List TableId) (tickets : TableId) (worker : Worker) → length pool ≡ length counts
+    → IsHired pool tickets counts worker → All (IsCounted counts) o.entries → MayAnswer o pool worker.pass
+may_answer o counts pool tickets worker size hired counted = record {
   own = hired.own;
-  rests = (hired_at_work pool counts 1 number [] worker (omega arith) size hired (λ i d l. absurd (omega (arith, l)))).rests;
+  rests = (hired_at_work pool tickets counts [] worker size hired (λ i d l. absurd (omega (arith, l)))).rests;
   sources = λ i d l. is_there counts worker.pass (slice_index_or o.entries i d) (hired.own.size ∙ size)
       (λ source m. ap (λ (hold : Hold). hold.pass.1.name.1) (hired.fresh source m)) (counted i d l);
 }
 
--- each worker may serve connections
-pub all_may_answer : (o : Openings) (counts : List ℕ) (pool : List TableId) (holds : List Hold) (workers : List Worker) → IsHiring pool counts holds workers
-    → All (IsCounted counts) o.entries → All (λ (worker : Worker). MayAnswer o pool worker.pass) workers
-all_may_answer o counts pool holds workers hiring counted i d l =
-    may_answer o counts pool i (slice_index_or workers i d) hiring.base.size (hiring.each i d l) counted
+-- each worker of a new crew may serve connections
+pub all_may_answer : (o : Openings) (counts : List ℕ) (crew : Crew) → IsHiring crew.pool crew.tickets counts crew.pass crew.draws crew.workers.items
+    → All (IsCounted counts) o.entries → All (λ (worker : Worker). MayAnswer o crew.pool worker.pass) crew.workers.items
+all_may_answer o counts crew hiring counted i d l =
+    may_answer o counts crew.pool crew.tickets (slice_index_or crew.workers.items i d) hiring.base.size (hiring.each i d l) counted

@@ -1,4 +1,4 @@
-use Rattle.std.proofs.Common.{All, is_some, true, length, refl, sym, subst, ◌≡◌, ◌∙◌, arith}
+use Rattle.std.proofs.Common.{All, is_some, true, refl, sym, subst, ◌≡◌, ◌∙◌, arith}
 use Rattle.std.proofs.lemmas.Result.{IfOk-weaker}
 use Rattle.query_run.proofs.Stops.{failed_too}
 use Rattle.batch_result.specs.Batches.{IsBatch}
@@ -23,9 +23,7 @@ pub run_sides-requires-clause-workers : goal.run_sides-requires-clause-workers
 run_sides-requires-clause-workers g c κs within =
     let new = c.in_ok-crew.ensures in
     let crew = c.in_ok-crew.crew in
-    let size = new.size in
-    let one = c.requires.settings.some_workers in
-    all_at_work crew.pool c.args.counts.now crew.pass crew.workers.items c.args.queries.now (omega (arith, size, one)) new.hiring c.requires.ready
+    all_at_work crew.pool crew.tickets c.args.counts.now crew.pass crew.draws crew.workers.items c.args.queries.now new.hiring c.requires.ready
 
 pub run_sides-requires-clause-feeders : goal.run_sides-requires-clause-feeders
 run_sides-requires-clause-feeders g c κs within =
@@ -74,7 +72,7 @@ returns-clause-lists g c =
     c.run_sides.ensures.fetched
     (taken_slots g.S.Source.list g.S.Source.counts g.S.Source.at_hand c.run_sides.new.slots.len c.take_back.new.feeders.items c.run_sides.new.slots.items c.as_mut_slice-2.result.now c.take_back.new.slots c.run_sides.new.slots.ok.0
     c.as_mut_slice-2.ensures.value c.take_back.ensures.back)
-    c.run_sides.ensures.worked refl refl refl refl in
+    c.run_sides.ensures.worked refl in
     kept_lists g.S.Source.list g.S.Source.counts g.S.Source.at_hand c.args.settings c.args.counts.now c.args.queries.now c.args.sources.now.items (came_back c.run_sides.new.slots.len c.run_sides.new.slots.items c.take_back.new.slots) _ ran
 
 pub returns-clause-versions : goal.returns-clause-versions
@@ -87,7 +85,7 @@ returns-clause-versions g c =
     c.run_sides.ensures.fetched
     (taken_slots g.S.Source.list g.S.Source.counts g.S.Source.at_hand c.run_sides.new.slots.len c.take_back.new.feeders.items c.run_sides.new.slots.items c.as_mut_slice-2.result.now c.take_back.new.slots c.run_sides.new.slots.ok.0
     c.as_mut_slice-2.ensures.value c.take_back.ensures.back)
-    c.run_sides.ensures.worked refl refl refl refl in
+    c.run_sides.ensures.worked refl in
     kept_versions g.S.Source.list g.S.Source.counts g.S.Source.at_hand c.args.settings c.args.counts.now c.args.queries.now c.args.sources.now.items (came_back c.run_sides.new.slots.len c.run_sides.new.slots.items c.take_back.new.slots) _ ran
 
 pub returns-clause-later : goal.returns-clause-later
@@ -100,7 +98,7 @@ returns-clause-later g c =
     c.run_sides.ensures.fetched
     (taken_slots g.S.Source.list g.S.Source.counts g.S.Source.at_hand c.run_sides.new.slots.len c.take_back.new.feeders.items c.run_sides.new.slots.items c.as_mut_slice-2.result.now c.take_back.new.slots c.run_sides.new.slots.ok.0
     c.as_mut_slice-2.ensures.value c.take_back.ensures.back)
-    c.run_sides.ensures.worked refl refl refl refl in
+    c.run_sides.ensures.worked refl in
     kept_counts g.S.Source.list g.S.Source.counts g.S.Source.at_hand c.args.settings c.args.counts.now c.args.queries.now c.args.sources.now.items (came_back c.run_sides.new.slots.len c.run_sides.new.slots.items c.take_back.new.slots) _ ran
 
 pub finish-requires-after_bounds : goal.finish-requires-after_bounds
@@ -113,11 +111,11 @@ finish-requires-after_bounds g c κs within =
     c.run_sides.ensures.fetched
     (taken_slots g.S.Source.list g.S.Source.counts g.S.Source.at_hand c.run_sides.new.slots.len c.take_back.new.feeders.items c.run_sides.new.slots.items c.as_mut_slice-2.result.now c.take_back.new.slots c.run_sides.new.slots.ok.0
     c.as_mut_slice-2.ensures.value c.take_back.ensures.back)
-    c.run_sides.ensures.worked refl refl refl refl in
+    c.run_sides.ensures.worked refl in
     let before = states_of g.S.Source.list g.S.Source.counts g.S.Source.at_hand c.args.sources.now.items in
-    let can : CanFinish c.args.settings c.args.counts.now c.args.queries.now before (states_of g.S.Source.list g.S.Source.counts g.S.Source.at_hand (came_back c.run_sides.new.slots.len c.run_sides.new.slots.items c.take_back.new.slots)) (length c.args.queries.now) (record c.in_ok-crew.crew { feeders = c.take_back.new.feeders; workers = c.run_sides.new.workers }) =
-    record { settings_are = c.requires.settings; ran = ran; many = refl; few = (c.requires.few_queries, c.requires.few_sources) } in
-    let lent = subst (λ slots. CanFinish c.args.settings c.args.counts.now c.args.queries.now before (states_of g.S.Source.list g.S.Source.counts g.S.Source.at_hand slots) (length c.args.queries.now) (record c.in_ok-crew.crew { feeders = c.take_back.new.feeders; workers = c.run_sides.new.workers }))
+    let can : CanFinish c.args.settings c.args.counts.now c.args.queries.now before (states_of g.S.Source.list g.S.Source.counts g.S.Source.at_hand (came_back c.run_sides.new.slots.len c.run_sides.new.slots.items c.take_back.new.slots)) (record c.in_ok-crew.crew { feeders = c.take_back.new.feeders; workers = c.run_sides.new.workers }) =
+    record { settings_are = c.requires.settings; ran = ran; few = (c.requires.few_queries, c.requires.few_sources) } in
+    let lent = subst (λ slots. CanFinish c.args.settings c.args.counts.now c.args.queries.now before (states_of g.S.Source.list g.S.Source.counts g.S.Source.at_hand slots) (record c.in_ok-crew.crew { feeders = c.take_back.new.feeders; workers = c.run_sides.new.workers }))
     (sym c.deref.ensures.value) can in
     (c.args.settings, c.args.counts.now, c.args.queries.now, before, lent)
 
@@ -131,11 +129,11 @@ returns-clause-cut g c =
     c.run_sides.ensures.fetched
     (taken_slots g.S.Source.list g.S.Source.counts g.S.Source.at_hand c.run_sides.new.slots.len c.take_back.new.feeders.items c.run_sides.new.slots.items c.as_mut_slice-2.result.now c.take_back.new.slots c.run_sides.new.slots.ok.0
     c.as_mut_slice-2.ensures.value c.take_back.ensures.back)
-    c.run_sides.ensures.worked refl refl refl refl in
+    c.run_sides.ensures.worked refl in
     let before = states_of g.S.Source.list g.S.Source.counts g.S.Source.at_hand c.args.sources.now.items in
-    let can : CanFinish c.args.settings c.args.counts.now c.args.queries.now before (states_of g.S.Source.list g.S.Source.counts g.S.Source.at_hand (came_back c.run_sides.new.slots.len c.run_sides.new.slots.items c.take_back.new.slots)) (length c.args.queries.now) (record c.in_ok-crew.crew { feeders = c.take_back.new.feeders; workers = c.run_sides.new.workers }) =
-    record { settings_are = c.requires.settings; ran = ran; many = refl; few = (c.requires.few_queries, c.requires.few_sources) } in
-    let lent = subst (λ slots. CanFinish c.args.settings c.args.counts.now c.args.queries.now before (states_of g.S.Source.list g.S.Source.counts g.S.Source.at_hand slots) (length c.args.queries.now) (record c.in_ok-crew.crew { feeders = c.take_back.new.feeders; workers = c.run_sides.new.workers }))
+    let can : CanFinish c.args.settings c.args.counts.now c.args.queries.now before (states_of g.S.Source.list g.S.Source.counts g.S.Source.at_hand (came_back c.run_sides.new.slots.len c.run_sides.new.slots.items c.take_back.new.slots)) (record c.in_ok-crew.crew { feeders = c.take_back.new.feeders; workers = c.run_sides.new.workers }) =
+    record { settings_are = c.requires.settings; ran = ran; few = (c.requires.few_queries, c.requires.few_sources) } in
+    let lent = subst (λ slots. CanFinish c.args.settings c.args.counts.now c.args.queries.now before (states_of g.S.Source.list g.S.Source.counts g.S.Source.at_hand slots) (record c.in_ok-crew.crew { feeders = c.take_back.new.feeders; workers = c.run_sides.new.workers }))
     (sym c.deref.ensures.value) can in
     failed_so c.finish.result
     (λ h.
@@ -154,11 +152,11 @@ returns-clause-batch g c =
     c.run_sides.ensures.fetched
     (taken_slots g.S.Source.list g.S.Source.counts g.S.Source.at_hand c.run_sides.new.slots.len c.take_back.new.feeders.items c.run_sides.new.slots.items c.as_mut_slice-2.result.now c.take_back.new.slots c.run_sides.new.slots.ok.0
     c.as_mut_slice-2.ensures.value c.take_back.ensures.back)
-    c.run_sides.ensures.worked refl refl refl refl in
+    c.run_sides.ensures.worked refl in
     let before = states_of g.S.Source.list g.S.Source.counts g.S.Source.at_hand c.args.sources.now.items in
-    let can : CanFinish c.args.settings c.args.counts.now c.args.queries.now before (states_of g.S.Source.list g.S.Source.counts g.S.Source.at_hand (came_back c.run_sides.new.slots.len c.run_sides.new.slots.items c.take_back.new.slots)) (length c.args.queries.now) (record c.in_ok-crew.crew { feeders = c.take_back.new.feeders; workers = c.run_sides.new.workers }) =
-    record { settings_are = c.requires.settings; ran = ran; many = refl; few = (c.requires.few_queries, c.requires.few_sources) } in
-    let lent = subst (λ slots. CanFinish c.args.settings c.args.counts.now c.args.queries.now before (states_of g.S.Source.list g.S.Source.counts g.S.Source.at_hand slots) (length c.args.queries.now) (record c.in_ok-crew.crew { feeders = c.take_back.new.feeders; workers = c.run_sides.new.workers }))
+    let can : CanFinish c.args.settings c.args.counts.now c.args.queries.now before (states_of g.S.Source.list g.S.Source.counts g.S.Source.at_hand (came_back c.run_sides.new.slots.len c.run_sides.new.slots.items c.take_back.new.slots)) (record c.in_ok-crew.crew { feeders = c.take_back.new.feeders; workers = c.run_sides.new.workers }) =
+    record { settings_are = c.requires.settings; ran = ran; few = (c.requires.few_queries, c.requires.few_sources) } in
+    let lent = subst (λ slots. CanFinish c.args.settings c.args.counts.now c.args.queries.now before (states_of g.S.Source.list g.S.Source.counts g.S.Source.at_hand slots) (record c.in_ok-crew.crew { feeders = c.take_back.new.feeders; workers = c.run_sides.new.workers }))
     (sym c.deref.ensures.value) can in
     IfOk-weaker c.finish.result _ _
     (λ batch h.
@@ -177,10 +175,10 @@ returns-clause-right g c =
     c.run_sides.ensures.fetched
     (taken_slots g.S.Source.list g.S.Source.counts g.S.Source.at_hand c.run_sides.new.slots.len c.take_back.new.feeders.items c.run_sides.new.slots.items c.as_mut_slice-2.result.now c.take_back.new.slots c.run_sides.new.slots.ok.0
     c.as_mut_slice-2.ensures.value c.take_back.ensures.back)
-    c.run_sides.ensures.worked refl refl refl refl in
+    c.run_sides.ensures.worked refl in
     let before = states_of g.S.Source.list g.S.Source.counts g.S.Source.at_hand c.args.sources.now.items in
-    let can : CanFinish c.args.settings c.args.counts.now c.args.queries.now before (states_of g.S.Source.list g.S.Source.counts g.S.Source.at_hand (came_back c.run_sides.new.slots.len c.run_sides.new.slots.items c.take_back.new.slots)) (length c.args.queries.now) (record c.in_ok-crew.crew { feeders = c.take_back.new.feeders; workers = c.run_sides.new.workers }) =
-    record { settings_are = c.requires.settings; ran = ran; many = refl; few = (c.requires.few_queries, c.requires.few_sources) } in
-    let lent = subst (λ slots. CanFinish c.args.settings c.args.counts.now c.args.queries.now before (states_of g.S.Source.list g.S.Source.counts g.S.Source.at_hand slots) (length c.args.queries.now) (record c.in_ok-crew.crew { feeders = c.take_back.new.feeders; workers = c.run_sides.new.workers }))
+    let can : CanFinish c.args.settings c.args.counts.now c.args.queries.now before (states_of g.S.Source.list g.S.Source.counts g.S.Source.at_hand (came_back c.run_sides.new.slots.len c.run_sides.new.slots.items c.take_back.new.slots)) (record c.in_ok-crew.crew { feeders = c.take_back.new.feeders; workers = c.run_sides.new.workers }) =
+    record { settings_are = c.requires.settings; ran = ran; few = (c.requires.few_queries, c.requires.few_sources) } in
+    let lent = subst (λ slots. CanFinish c.args.settings c.args.counts.now c.args.queries.now before (states_of g.S.Source.list g.S.Source.counts g.S.Source.at_hand slots) (record c.in_ok-crew.crew { feeders = c.take_back.new.feeders; workers = c.run_sides.new.workers }))
     (sym c.deref.ensures.value) can in
     IfOk-weaker c.finish.result _ _ (λ batch h. (h c.args.settings c.args.counts.now c.args.queries.now before lent).right) c.finish.ensures.batch

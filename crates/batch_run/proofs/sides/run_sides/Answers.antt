@@ -1,6 +1,5 @@
-use Rattle.std.proofs.Common.{◌++◌, ap, refl, sym, ◌∙◌, take, drop, length}
-use Rattle.batch_result.proofs.Places.{lent_back}
-use Rattle.batch_run.proofs.HandLaws.{all_fresh, all_served, hands_begin, hands_end, none_fetched, spared_back}
+use Rattle.std.proofs.Common.{rules, ap, refl, sym, ◌∙◌}
+use Rattle.batch_run.proofs.HandLaws.{all_fresh, all_idle, all_served, hands_begin, hands_end, none_fetched}
 use Rattle.batch_run.proofs.sides.run_sides.Goals as goal
 
 pub open-requires-clause-fresh : goal.open-requires-clause-fresh
@@ -14,38 +13,27 @@ returns-in_default-clause-fetched g c =
     ((g.met.S.Source g.world.𝓛 g.world.𝓜 g.world.𝓡 ((λ s x. x), (λ x. x), (λ x. x), λ x. x)).distinct) c.requires.feeders c.requires.fresh refl
 
 pub returns-in_default-clause-worked : goal.returns-in_default-clause-worked
-returns-in_default-clause-worked g c =
-    let before = c.args.workers.now.items in
-    let after = c.spare.new.workers in
-    spared_back c.args.pool.now c.args.queries.now before c.deref_mut.result.now after _ c.deref_mut.ensures.value c.spare.ensures
-    (λ size. ap (λ n. take n (after ++ drop (length after) before)) c.args.workers.now.ok.0 ∙ lent_back before after size) c.requires.workers
+returns-in_default-clause-worked g c = all_idle c.args.pool.now c.args.tickets.now c.args.queries.now c.args.workers.now.items c.requires.workers
 
-pub returns-in-Some-clause-fetched : goal.returns-in-Some-clause-fetched
-returns-in-Some-clause-fetched g c =
+pub returns-in_default-open-clause-fetched : goal.returns-in_default-open-clause-fetched
+returns-in_default-open-clause-fetched g c =
+    none_fetched g.S.Source.list g.S.Source.counts g.S.Source.calls g.S.Source.at_hand g.S.Source.states c.args.pool.now c.args.settings c.args.slots.now.items c.open.new.slots.items c.requires.settings
+    ((g.met.S.Source g.world.𝓛 g.world.𝓜 g.world.𝓡 ((λ s x. x), (λ x. x), (λ x. x), λ x. x)).distinct) c.requires.feeders c.requires.fresh (search rules)
+
+pub returns-clause-fetched : goal.returns-clause-fetched
+returns-clause-fetched g c =
     let began = c.in-Some.ensures.began in
     all_served g.S.Source.list g.S.Source.counts g.S.Source.calls g.S.Source.at_hand g.S.Source.states c.in-Some.posts c.args.pool.now c.args.settings c.args.slots.now.items c.close.new.slots.items
     c.in-Some.ensures.posts.0 began.0 began.1 (ap (λ v. v.items) began.2) c.close.ensures
 
-pub returns-clause-fetched : goal.returns-clause-fetched
-returns-clause-fetched g c =
-    none_fetched g.S.Source.list g.S.Source.counts g.S.Source.calls g.S.Source.at_hand g.S.Source.states c.args.pool.now c.args.settings c.args.slots.now.items c.open.new.slots.items c.requires.settings
-    ((g.met.S.Source g.world.𝓛 g.world.𝓜 g.world.𝓡 ((λ s x. x), (λ x. x), (λ x. x), λ x. x)).distinct) c.requires.feeders c.requires.fresh c.in-None.ensures.stay
-
-pub returns-clause-worked : goal.returns-clause-worked
-returns-clause-worked g c =
-    let before = c.args.workers.now.items in
-    let after = c.spare-in-None.new.workers in
-    spared_back c.args.pool.now c.args.queries.now before c.deref_mut-in-None.result.now after _ c.deref_mut-in-None.ensures.value c.spare-in-None.ensures
-    (λ size. ap (λ n. take n (after ++ drop (length after) before)) c.args.workers.now.ok.0 ∙ lent_back before after size) c.requires.workers
-
 pub run_posts-requires-clause-workers : goal.run_posts-requires-clause-workers
 run_posts-requires-clause-workers g c κs within =
-    hands_begin c.args.pool.now c.args.queries.now c.args.workers.now.items c.hand_out.new.hands.items c.hand_out.ensures.hands c.requires.workers
+    hands_begin c.args.pool.now c.args.tickets.now c.args.queries.now c.args.workers.now.items c.hand_out.new.hands.items c.hand_out.ensures.hands c.requires.workers
 
 pub close-requires-clause-size : goal.close-requires-clause-size
 close-requires-clause-size g c κs within = c.in-Some.ensures.posts.0.size ∙ sym c.in-Some.ensures.posts.0.many
 
-pub returns-in-Some-clause-worked : goal.returns-in-Some-clause-worked
-returns-in-Some-clause-worked g c =
-    hands_end c.args.pool.now c.args.queries.now c.args.workers.now.items c.hand_in.new.workers.items c.hand_out.new.hands.items c.run_posts.new.hands.workers.items
+pub returns-clause-worked : goal.returns-clause-worked
+returns-clause-worked g c =
+    hands_end c.args.pool.now c.args.tickets.now c.args.queries.now c.args.workers.now.items c.hand_in.new.workers.items c.hand_out.new.hands.items c.run_posts.new.hands.workers.items
     c.hand_out.ensures.hands c.hand_in.ensures.workers c.run_posts.ensures.worked

@@ -9,7 +9,7 @@ pub serve_sides-requires-clause-workers : goal.serve_sides-requires-clause-worke
 serve_sides-requires-clause-workers g c κs within =
     let new = c.requires.new in
     subst (All (λ (worker : Worker). MayAnswer c.args.catalog.now c.args.crew.now.pool worker.pass)) (sym c.as_mut_slice.ensures.value)
-    (all_may_answer c.args.catalog.now new.0 c.args.crew.now.pool c.args.crew.now.pass c.args.crew.now.workers.items new.1.hiring new.3)
+    (all_may_answer c.args.catalog.now new.0 c.args.crew.now new.1.hiring new.3)
 
 pub returns-clause-kept : goal.returns-clause-kept
 returns-clause-kept g c =
