@@ -14,11 +14,6 @@ use Rattle.catalog_open.specs.Entries.{entry_at}
 use Rattle.catalog_open.specs.Openings.{AsksAtMost, AsksEachAtMostOnce, AsksEachOnce, AsksFor, Counted, PutsBack, Used, counted_times, marked_at, one_at}
 use Rattle.catalog_open.proofs.Moving.{times_add}
 
--- what holds in any case
-pub holds_so : {A E : Type 0} (r : Result A E) (P : Type 0) → P → OnOk r P
-holds_so (Ok x) P h = h
-holds_so (Err e) P h = tt
-
 counted_on : (a b : ℕ) → a ≤ b → counted a ≤ counted b
 counted_on a b h = omega (arith, h)
 

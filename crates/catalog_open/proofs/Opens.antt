@@ -232,14 +232,6 @@ pub sources_as : (told told_now : List (Option (List Row))) (held held_now place
     → counts_now ≡ counts → sources_by told_now held_now places_now counts_now ≡ sources_by told held places counts
 sources_as told told_now held held_now places places_now counts counts_now t h p c = λ i. sources_by (t i) (h i) (p i) (c i)
 
-pub opened_as : (lists : List ℕ → Option (List Row)) (versions : List ℕ → Option ℕ) (catalog : List Entry) (Wanted : ℕ
-    → Type 0) (before now : Counted) (os os_now : List Opening) (told told_now : List (Option (List Row))) (held held_now places places_now counts counts_now : List ℕ)
-    → os_now ≡ os → told_now ≡ told → held_now ≡ held → places_now ≡ places → counts_now ≡ counts → AreOpened lists versions catalog Wanted before now os (sources_by told held places counts)
-    → AreOpened lists versions catalog Wanted before now os_now (sources_by told_now held_now places_now counts_now)
-opened_as lists versions catalog Wanted before now os os_now told told_now held held_now places places_now counts counts_now o t h p c are =
-    subst (λ x. AreOpened lists versions catalog Wanted before now x (sources_by told_now held_now places_now counts_now)) (sym o)
-    (subst (AreOpened lists versions catalog Wanted before now os) (sym (sources_as told told_now held held_now places places_now counts counts_now t h p c)) are)
-
 -- sources count at their places
 pub known_on : (catalog : List Entry) (before now : List ℕ → Bool) (places : List ℕ) → ((other : List ℕ) → before other ≡ true → now other ≡ true)
     → All (IsKnownAt catalog before) places → All (IsKnownAt catalog now) places

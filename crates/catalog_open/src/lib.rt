@@ -16,7 +16,7 @@ mod wanted;
 pub use admissions::{Admissions, Stage, admit_all};
 pub use catalogued::{Catalogued, said_of};
 pub use closing::put_back_all;
-pub use opened::{Opened, Opening};
+pub use opened::{OpenSources, Opening};
 pub use opening::open_wanted;
 pub use reading::{let_lines_go, read_lines};
 pub use topk_base::Memory;

@@ -25,7 +25,7 @@ pub enum Opening {
 
 /// What became of the sources of a catalog, in its order, and the open ones by their numbers.
 #[derive(Drop)]
-pub(crate) struct OpenSources<S: Source> {
+pub struct OpenSources<S: Source> {
     /// What became of the source of each entry.
     pub openings: Vec<Opening>,
     /// Where each open source stands in the catalog.
@@ -34,32 +34,6 @@ pub(crate) struct OpenSources<S: Source> {
     pub counts: Vec<u32>,
     /// The source itself, without a feeder.
     pub slots: Vec<Slot<S>>,
-}
-
-/// What became of the sources of a catalog, in its order, and of each open source, in the order of their numbers, where it stands
-/// in the catalog and how many objects it has, 0 where it states more than a list may have.
-#[derive(Drop)]
-pub struct Opened {
-    pub openings: Vec<Opening>,
-    pub places: Vec<u32>,
-    pub counts: Vec<u32>,
-}
-
-impl Opened {
-    ghost use Rattle.std.specs.Prelude.{◌≡◌, []};
-
-    /// Nothing is open. Takes no memory yet.
-    pub fn make(alloc: Global) -> Opened
-        ensures openings { result.openings.items ≡ [] }
-        ensures places { result.places.items ≡ [] }
-        ensures counts { result.counts.items ≡ [] }
-    {
-        Opened {
-            openings: Vec::new(alloc),
-            places: Vec::new(alloc),
-            counts: Vec::new(alloc),
-        }
-    }
 }
 
 /// How many objects a source of this size has in a run.

@@ -1,15 +1,15 @@
 //! Opening the sources that are wanted.
 
-ghost use Rattle.std.specs.Prelude.{◌≡◌, ◌≤◌, ◌<◌, [], ℕ, List, All, IfOk, OnErr, OnOk, length, map};
+ghost use Rattle.std.specs.Prelude.{◌≡◌, ◌<◌, [], ℕ, List, IfOk, OnErr, OnOk, length};
 ghost use Rattle.source_api.specs.Places.{SameAtEach};
 ghost use Rattle.catalog_open.specs.Entries.{IsMarked, entry_at};
-ghost use Rattle.catalog_open.specs.Openings.{AreOpened, AsksEachAtMostOnce, AsksEachOnce, GivesNothing, IsKnownAt, IsUnread, no_sources};
-ghost use Rattle.catalog_open.specs.Slots.{HasRoom, IsIdle, of_slot, sources_in, sources_of};
-ghost use Rattle.catalog_open.specs.Takings.{AreReady, SameShelf, Settles, WasAsked, seen, shelf_seen, size_to_open};
+ghost use Rattle.catalog_open.specs.Openings.{AreOpened, AsksEachAtMostOnce, AsksEachOnce, GivesNothing, no_sources};
+ghost use Rattle.catalog_open.specs.Slots.{HasRoom, sources_of};
+ghost use Rattle.catalog_open.specs.Takings.{AreReady, SameShelf, Settles, seen, shelf_seen, size_to_open};
 
 use super::Memory;
 use super::entries::place_of_entry;
-use super::opened::{OpenSources, Opened, Opening, run_count};
+use super::opened::{OpenSources, Opening, run_count};
 use super::taking::{OpenEntry, take_and_ask};
 use catalog_text::Catalog;
 use fetcher::Slot;
@@ -64,8 +64,12 @@ fn settle_next<H: Shelf>(
     opened.slots.push_reserved(Slot::make(source));
 }
 
-/// Opens the sources of a catalog that are marked, as `open_wanted` does. Where memory is refused all that were taken are put back.
-fn open_sources<W: Threads + Sync, H: Shelf>(
+/// Opens the sources of a catalog that are marked: each is asked of the shelf exactly once, in the catalog's order, and then those that
+/// were taken are asked for their sizes, each exactly once, side by side in at most eight threads. A source that isn't open then was put back,
+/// and where memory is refused all were. Nothing is read of the sources.
+///
+/// *Cost*: one `take` and one `size` for each source that is wanted.
+pub fn open_wanted<W: Threads + Sync, H: Shelf>(
     rt: &W,
     alloc: Global,
     shelf: &mut H,
@@ -99,56 +103,4 @@ fn open_sources<W: Threads + Sync, H: Shelf>(
         return Err(Memory);
     }
     Ok(opened)
-}
-
-/// Opens the sources of a catalog that are marked: each is asked of the shelf exactly once, in the catalog's order, and then those that
-/// were taken are asked for their sizes, each exactly once, side by side in at most eight threads. What became of them is put into `opened`, and
-/// the open sources into `slots`, without feeders, in the catalog's order; both were empty before. A source that isn't open then was put back,
-/// and where memory is refused all were. Nothing is read of the sources.
-///
-/// *Cost*: one `take` and one `size` for each source that is wanted.
-pub fn open_wanted<W: Threads + Sync, H: Shelf>(
-    rt: &W,
-    alloc: Global,
-    shelf: &mut H,
-    catalog: &Catalog,
-    marks: &[bool],
-    opened: &mut Opened,
-    slots: &mut Vec<Slot<H::Item>>,
-) -> Result<(), Memory>
-    requires marks { length marks.now ≡ length catalog.now }
-    requires openings { opened.old.openings.items ≡ [] }
-    requires places { opened.old.places.items ≡ [] }
-    requires counts { opened.old.counts.items ≡ [] }
-    requires sources { slots.old.items ≡ [] }
-    ensures texts { SameAtEach (H.texts shelf.old) (H.texts shelf.new) }
-    ensures lists { SameAtEach (H.lists shelf.old) (H.lists shelf.new) }
-    ensures versions { SameAtEach (H.versions shelf.old) (H.versions shelf.new) }
-    ensures all { OnOk result (length opened.new.openings.items ≡ length catalog.now) }
-    ensures known { All (IsKnownAt catalog.now (H.knows shelf.new)) opened.new.places.items }
-    ensures back { (place : List ℕ) → GivesNothing (H.at shelf.old place) (H.at shelf.new place) }
-    ensures few { length slots.new.items ≤ length catalog.now }
-    ensures once { OnOk result (AsksEachOnce catalog.now marks.now (H.at shelf.old) (H.at shelf.new)) }
-    ensures few_asks { AsksEachAtMostOnce catalog.now marks.now (H.at shelf.old) (H.at shelf.new) }
-    ensures asked { All (WasAsked (seen H.Item.list H.Item.states H.Item.at_hand H.Item.counts H.Item.calls)) slots.new.items }
-    ensures idle { All IsIdle slots.new.items }
-    ensures unread { All IsUnread (map (of_slot H.Item.counts) slots.new.items) }
-    ensures opened { AreOpened (H.lists shelf.old) (H.versions shelf.old) catalog.now (IsMarked marks.now) (H.at shelf.old) (H.at shelf.new)
-        opened.new.openings.items
-        (sources_in H.Item.list H.Item.at_hand slots.new.items opened.new.places.items opened.new.counts.items) }
-{
-    let Ok(sources) = open_sources(rt, alloc, shelf, catalog, marks) else {
-        return Err(Memory);
-    };
-    let OpenSources {
-        openings,
-        places,
-        counts,
-        slots: open,
-    } = sources;
-    opened.openings = openings;
-    opened.places = places;
-    opened.counts = counts;
-    *slots = open;
-    Ok(())
 }

@@ -24,13 +24,12 @@ use Rattle.catalog_open.specs.Admissions.{AreAdmitted}
 use Rattle.catalog_open.specs.Views.{view_over, nothing_told}
 use Rattle.catalog_open.specs.Wanted.{IsWanted}
 use Rattle.catalog_open.specs.Slots.{of_slot, sources_in}
-use Rattle.catalog_open.specs.Openings.{Counted, Sources, IsUnread, GivesNothing, AreOpened, PutsBack, put_back}
+use Rattle.catalog_open.specs.Openings.{Counted, Sources, IsUnread, GivesNothing, AreOpened, PutsBack, no_sources, put_back}
 use Rattle.catalog_open.proofs.Opens.{opened_none}
 use Rattle.catalog_open.proofs.Unread.{none_unread, still}
 use Rattle.catalog_run.specs.OpenSources.{batch_over}
 use Rattle.catalog_run.specs.Runs.{AsksWantedOnce}
 use Rattle.catalog_run.specs.Cut.{CutOver, RanOutOfMemory}
-use Rattle.catalog_run.proofs.Whole.{sources_as}
 
 -- ---- a batch that came to its end reads as one does that ran out of memory
 
@@ -55,13 +54,6 @@ cut_whole run batch ran =
       read = subst (λ (qs : List RunningQuery). IsReadBy run qs ran.states batch.uses) (sym (all_began ran.queries)) read;
     }
 
--- the batch of these queries, in other words
-pub cut_of_readies : (settings : Settings) (s : Sources) (sizes : List ℕ) (before now : List Counts) (lent readies : List ReadyQuery) → sizes ≡ s.counts
-    → lent ≡ readies → IsCut (batch_over settings (record s { counts = sizes }) before now lent) → IsCut (batch_over settings s before now readies)
-cut_of_readies settings s sizes before now lent readies same_counts same cut =
-    subst (λ (cs : List ℕ). IsCut (batch_over settings (record s { counts = cs }) before now readies)) same_counts
-    (subst (λ (rs : List ReadyQuery). IsCut (batch_over settings (record s { counts = sizes }) before now rs)) same cut)
-
 -- ---- over the lines
 
 -- all lines were admitted
@@ -77,14 +69,6 @@ cut_over settings s before now view lines stages readies many later are cut = re
   are = subst (λ (ls : List (List ℕ)). AreAdmitted view 1 ls stages readies) (sym (take_all (length lines) lines (omega arith))) are;
   cut = cut;
 }
-
--- the lists and the versions of the sources, in other words
-pub cut_told : (settings : Settings) (told same : List (Option (List Row))) (held same_held places counts : List ℕ) (before now : List Counts) (view : View)
-    (lines : List (List ℕ)) → same ≡ told → same_held ≡ held → CutOver settings (sources_as told held places counts) before now view lines
-    → CutOver settings (sources_as same same_held places counts) before now view lines
-cut_told settings told same held same_held places counts before now view lines is at cut =
-    subst (λ (t : List (Option (List Row))). CutOver settings (sources_as t same_held places counts) before now view lines) (sym is)
-    (subst (λ (h : List ℕ). CutOver settings (sources_as told h places counts) before now view lines) (sym at) cut)
 
 -- sources of which nothing had been read were open when the lines began; lines were admitted only after this
 abbrev pub StopsOver : Settings → Sources → List Counts → View → List (List ℕ) → Type 0 → Type 0
@@ -140,22 +124,24 @@ cut_run catalog lines lists versions settings before mid after openings s now ar
   back = back;
 }
 
+-- a run that ran out of memory before a source was open
+pub cut_closed : (catalog : List Entry) (lines : List (List ℕ)) (lists : List ℕ → Option (List Row)) (versions : List ℕ → Option ℕ) (settings : Settings)
+    (before after : Counted) → AreOpened lists versions catalog (IsWanted catalog lines) before after [] no_sources → ((place : List ℕ) → GivesNothing (before place) (after place))
+    → RanOutOfMemory (record { catalog = catalog; lines = lines; lists = lists; versions = versions; settings = settings; before = before; after = after })
+cut_closed catalog lines lists versions settings before after closed idle =
+    cut_run catalog lines lists versions settings before after after [] no_sources [] closed idle
+    (stops_unread (λ (n : ℕ). None) (λ (n : ℕ). no_counts) (λ (n : ℕ). 0) settings [] [] [] (view_over catalog [] nothing_told) lines _ (λ n. tt) refl
+    (All-nil (λ size. size ≤ 200000)) none_unread)
+    (record { texts = λ place. refl; takes = λ place. refl; taken = λ place. refl; returned = λ place. refl; sources = λ place. refl })
+
 -- a run that ran out of memory before a source was taken
 pub cut_before : (catalog : List Entry) (lines : List (List ℕ)) (lists : List ℕ → Option (List Row)) (versions : List ℕ → Option ℕ) (settings : Settings)
     (at : Counted)
     → RanOutOfMemory (record { catalog = catalog; lines = lines; lists = lists; versions = versions; settings = settings; before = at; after = at })
 cut_before catalog lines lists versions settings at =
-    cut_run catalog lines lists versions settings at at at [] (record { told = []; versions = []; places = []; counts = [] }) []
-    (opened_none lists versions catalog (IsWanted catalog lines) at) (λ place. still (at place))
-    (stops_unread (λ (n : ℕ). None) (λ (n : ℕ). no_counts) (λ (n : ℕ). 0) settings [] [] [] (view_over catalog [] nothing_told) lines _ (λ n. tt) refl
-    (All-nil (λ size. size ≤ 200000)) none_unread)
-    (record { texts = λ place. refl; takes = λ place. refl; taken = λ place. refl; returned = λ place. refl; sources = λ place. refl })
+    cut_closed catalog lines lists versions settings at at (opened_none lists versions catalog (IsWanted catalog lines) at) (λ place. still (at place))
 
 -- where memory was refused
 pub if_short : {A E P : Type 0} (r : Result A E) → P → OnErr r P
 if_short (Ok x) p = tt
 if_short (Err e) p = p
-
-pub short_too : {A E P Q : Type 0} (r : Result A E) → OnErr r P → (P → Q) → OnErr r Q
-short_too (Ok x) h f = tt
-short_too (Err e) h f = f h

@@ -1,8 +1,7 @@
 -- What a batch gives the lines.
-use Rattle.std.proofs.Common.{◌≡◌, ℕ, List, Option, All, length, map, Result, Ok, Err, IfOk, sym, ◌∙◌, subst}
+use Rattle.std.proofs.Common.{◌≡◌, ℕ, List, All, length, map, sym, ◌∙◌, subst}
 use Rattle.std.specs.List.{AllZip}
 use Rattle.std.proofs.lemmas.List.{length-map}
-use Rattle.ranked_list.specs.declared.row.Row.{Row}
 use Rattle.source_api.specs.declared.counts.Counts.{Counts}
 use Rattle.source_api.specs.Counting.{NoneFell}
 use Rattle.query_core.specs.declared.ready.Ready.{Ready as ReadyQuery}
@@ -21,17 +20,12 @@ use Rattle.line_outcome.specs.LineOutcomes.{CanBeWritten}
 use Rattle.catalog_run.specs.OpenSources.{batch_over}
 use Rattle.catalog_run.proofs.Outcomes.{outcomes_are, right_fit}
 use Rattle.catalog_run.proofs.Readies.{all_own}
-use Rattle.catalog_run.proofs.Whole.{sources_as}
 use Rattle.catalog_run.proofs.Writable.{can_be_written}
 
 -- the batch of these queries, in other words
-pub batch_of_readies : (settings : Settings) (told : List (Option (List Row))) (held places sizes counts : List ℕ) (begun now : List Counts)
-    (lent readies : List ReadyQuery) (batch : BatchState) → sizes ≡ counts → lent ≡ readies
-    → IsBatch (batch_over settings (sources_as told held places sizes) begun now lent) batch
-    → IsBatch (batch_over settings (sources_as told held places counts) begun now readies) batch
-batch_of_readies settings told held places sizes counts begun now lent readies batch same_counts same ran =
-    subst (λ cs. IsBatch (batch_over settings (sources_as told held places cs) begun now readies) batch) same_counts
-    (subst (λ rs. IsBatch (batch_over settings (sources_as told held places sizes) begun now rs) batch) same ran)
+pub same_batch : (settings : Settings) (s : Sources) (sizes : List ℕ) (begun now : List Counts) (lent readies : List ReadyQuery) → sizes ≡ s.counts
+    → lent ≡ readies → batch_over settings (record s { counts = sizes }) begun now lent ≡ batch_over settings s begun now readies
+same_batch settings s sizes begun now lent readies counts are = λ i. batch_over settings (record s { counts = counts i }) begun now (are i)
 
 pub ran_over : (settings : Settings) (s : Sources) (begun now : List Counts) (view : View) (lines : List (List ℕ)) (stages : List Stage)
     (readies : List ReadyQuery) (batch : BatchState) (outcomes : List LineOutcome) → length begun ≡ length s.told → AllZip NoneFell begun now
@@ -66,8 +60,3 @@ ran_written settings s begun now view lines stages readies batch outcomes ran ar
 -- as many sources are there as lists that they may tell
 pub as_many : {X A B : Type 0} → (f : X → A) (g : X → B) (xs : List X) → length (map f xs) ≡ length (map g xs)
 as_many f g xs = length-map xs f ∙ sym (length-map xs g)
-
--- what holds where memory wasn't refused
-pub if_then : {A E : Type 0} (r : Result A E) (P Q : A → Type 0) → IfOk r P → ((x : A) → P x → Q x) → IfOk r Q
-if_then (Ok x) P Q h f = f x h
-if_then (Err e) P Q h f = tt

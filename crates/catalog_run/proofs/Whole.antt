@@ -1,5 +1,5 @@
 -- A run as a whole.
-use Rattle.std.proofs.Common.{◌≡◌, ℕ, ◌<◌, Bool, List, ◌++◌, All, Contains, length, reverse, slice_index_or, Option, Result, Ok, Err, IfOk, OnOk, true, false, refl, sym, ◌∙◌, subst}
+use Rattle.std.proofs.Common.{◌≡◌, ℕ, ◌<◌, Bool, List, ◌++◌, All, Contains, length, reverse, slice_index_or, Option, true, false, refl, sym, ◌∙◌, subst}
 use Rattle.std.proofs.lemmas.List.{ext_get_or, get_or_default}
 use Rattle.ranked_list.specs.declared.row.Row.{Row}
 use Rattle.source_api.specs.declared.counts.Counts.{Counts}
@@ -8,7 +8,6 @@ use Rattle.catalog_open.specs.declared.opened.Opening.{Opening}
 use Rattle.catalog_open.specs.declared.opened.Opening.TheVariants.{Closed, Open}
 use Rattle.catalog_open.specs.Views.{view_over, nothing_told}
 use Rattle.catalog_open.specs.Entries.{opening_at, is_marked, IsMarked}
-use Rattle.query_admission.specs.View.{View}
 use Rattle.topk_base.specs.declared.settings.Settings.{Settings}
 use Rattle.query_admission.specs.declared.line_outcome.LineOutcome.{LineOutcome}
 use Rattle.catalog_run.specs.Runs.{AsksWantedAtMostOnce, AsksWantedOnce, IsRun, RanOver}
@@ -89,16 +88,6 @@ is_run catalog lines lists versions settings before mid after openings s begun n
   back = back;
 }
 
--- where memory wasn't refused
-pub if_ran : {A E : Type 0} (r : Result A E) (P Q : A → Type 0) (R : Type 0) → IfOk r P → OnOk r R → ((x : A) → P x → R → Q x) → IfOk r Q
-if_ran (Ok x) P Q R h k f = f x h k
-if_ran (Err e) P Q R h k f = tt
-
--- two facts where memory wasn't refused
-pub both_so : {A E : Type 0} (r : Result A E) (P Q : Type 0) → OnOk r P → OnOk r Q → OnOk r (P × Q)
-both_so (Ok x) P Q p q = (p, q)
-both_so (Err e) P Q p q = tt
-
 -- the marks of the sources that lines want are told by what is wanted
 pub marked_same : (catalog : List Entry) (lines : List (List ℕ)) (marks others : List Bool) → AreMarked catalog lines marks → AreMarked catalog lines others → marks ≡ others
 marked_same catalog lines marks others one other =
@@ -130,23 +119,3 @@ pub run_moves : (lists : List ℕ → Option (List Row)) (versions : List ℕ �
 run_moves lists versions catalog W before mid after openings s now many are back =
     let used = reverse (put_back catalog s.places now) in
     (are.used ++ used, moves_back (standing catalog s.places) are.used used before mid after are.moves back (λ place. back_standing catalog s.places now place many))
-
--- the lists and the versions of the sources, in other words
-abbrev pub sources_as : List (Option (List Row)) → List ℕ → List ℕ → List ℕ → Sources
-sources_as told held places counts = record { told = told; versions = held; places = places; counts = counts }
-
-pub opened_told : (lists : List ℕ → Option (List Row)) (versions : List ℕ → Option ℕ) (catalog : List Entry) (W : ℕ → Type 0) (before now : Counted)
-    (openings : List Opening) (told same : List (Option (List Row))) (held same_held places counts : List ℕ) → same ≡ told → same_held ≡ held
-    → AreOpened lists versions catalog W before now openings (sources_as told held places counts)
-    → AreOpened lists versions catalog W before now openings (sources_as same same_held places counts)
-opened_told lists versions catalog W before now openings told same held same_held places counts is at are =
-    subst (λ t. AreOpened lists versions catalog W before now openings (sources_as t same_held places counts)) (sym is)
-    (subst (λ h. AreOpened lists versions catalog W before now openings (sources_as told h places counts)) (sym at) are)
-
-pub ran_told : (settings : Settings) (told same : List (Option (List Row))) (held same_held places counts : List ℕ) (begun now : List Counts) (view : View)
-    (lines : List (List ℕ)) (outcomes : List LineOutcome) → same ≡ told → same_held ≡ held
-    → RanOver settings (sources_as told held places counts) begun now view lines outcomes
-    → RanOver settings (sources_as same same_held places counts) begun now view lines outcomes
-ran_told settings told same held same_held places counts begun now view lines outcomes is at ran =
-    subst (λ t. RanOver settings (sources_as t same_held places counts) begun now view lines outcomes) (sym is)
-    (subst (λ h. RanOver settings (sources_as told h places counts) begun now view lines outcomes) (sym at) ran)

@@ -1,15 +1,14 @@
 //! Query lines over a catalog.
 
-ghost use Rattle.std.specs.Prelude.{◌≡◌, ◌≤◌, ◌<◌, [], ℕ, Bool, List, Option, All, length, map, IfOk, OnErr, OnOk};
+ghost use Rattle.std.specs.Prelude.{◌≡◌, ◌≤◌, [], ℕ, List, Option, All, length, map, IfOk, OnErr, OnOk};
 ghost use Rattle.ranked_list.specs.declared.row.Row.{Row};
-ghost use Rattle.source_api.specs.declared.counts.Counts.{Counts};
 ghost use Rattle.source_api.specs.Places.{SameAtEach};
 ghost use Rattle.topk_base.specs.Ranges.{AreSettings};
 ghost use Rattle.catalog_open.specs.Views.{view_over, nothing_told};
 ghost use Rattle.catalog_open.specs.Wanted.{AreRead, IsWanted};
-ghost use Rattle.catalog_open.specs.Slots.{IsIdle, of_slot, sources_in};
-ghost use Rattle.catalog_open.specs.Entries.{IsMarked};
-ghost use Rattle.catalog_open.specs.Openings.{AreOpened, Counted, GivesNothing, IsKnownAt, IsUnread, KeepsOthers, Moves, Used};
+ghost use Rattle.catalog_open.specs.Slots.{IsIdle, of_slot, sources_of};
+ghost use Rattle.catalog_open.specs.Takings.{AreReady, seen};
+ghost use Rattle.catalog_open.specs.Openings.{AreOpened, Counted, GivesNothing, KeepsOthers, Moves, Used, no_sources};
 ghost use Rattle.catalog_run.specs.Runs.{AsksWantedAtMostOnce, AsksWantedOnce, IsRun, RanOver};
 ghost use Rattle.catalog_run.specs.Cut.{CutOver, RanOutOfMemory};
 ghost use Rattle.line_outcome.specs.LineOutcomes.{CanBeWritten};
@@ -18,10 +17,10 @@ use super::Memory;
 use super::merging::{let_admissions_go, merge};
 use batch_run::{Settings, run_all};
 use catalog_open::{
-    Catalogued, Opened, admit_all, let_lines_go, mark_wanted, open_wanted, put_back_all, read_lines,
+    Catalogued, OpenSources, admit_all, let_lines_go, mark_wanted, open_wanted, put_back_all,
+    read_lines,
 };
 use catalog_text::Catalog;
-use fetcher::Slot;
 use query_admission::{LineOutcome, ReadLine};
 use source_api::{Shelf, Source};
 use std::alloc::Global;
@@ -74,79 +73,48 @@ pub fn run_lines<W: Threads + Wait + Sync, H: Shelf>(
     })) }
     ensures writable { IfOk result (λ outcomes. All CanBeWritten outcomes.items) }
 {
-    let mut opened = Opened::make(alloc);
-    let mut slots = Vec::new(alloc);
-    let result = open_and_run(
-        rt,
-        alloc,
-        shelf,
-        catalog,
-        &mut opened,
-        &mut slots,
-        lines,
-        settings,
-    );
-    put_back_all(shelf, catalog, &opened.places, slots);
+    let Ok(read) = read_lines(alloc, lines) else {
+        return Err(Memory);
+    };
+    let Ok(mut sources) = open_lines(rt, alloc, shelf, catalog, &read) else {
+        let_lines_go(read);
+        return Err(Memory);
+    };
+    let result = run_opened(rt, alloc, catalog, &mut sources, read, settings);
+    put_back_all(shelf, catalog, sources);
     result
 }
 
-/// Opens the sources that the lines want, and runs the lines over them.
-fn open_and_run<W: Threads + Wait + Sync, H: Shelf>(
+/// Opens the sources that lines want which were read. Where memory is refused none is open.
+fn open_lines<W: Threads + Sync, H: Shelf>(
     rt: &W,
     alloc: Global,
     shelf: &mut H,
     catalog: &Catalog,
-    opened: &mut Opened,
-    slots: &mut Vec<Slot<H::Item>>,
-    lines: &[&[u8]],
-    settings: Settings,
-) -> Result<Vec<LineOutcome>, Memory>
-    requires settings { AreSettings settings }
-    requires openings { opened.old.openings.items ≡ [] }
-    requires places { opened.old.places.items ≡ [] }
-    requires counts { opened.old.counts.items ≡ [] }
-    requires sources { slots.old.items ≡ [] }
+    read: &[ReadLine],
+) -> Result<OpenSources<H::Item>, Memory>
+    requires { (lines : List (List ℕ)) × AreRead lines read.now }
     ensures texts { SameAtEach (H.texts shelf.old) (H.texts shelf.new) }
     ensures lists { SameAtEach (H.lists shelf.old) (H.lists shelf.new) }
     ensures versions { SameAtEach (H.versions shelf.old) (H.versions shelf.new) }
-    ensures known { All (IsKnownAt catalog.now (H.knows shelf.new)) opened.new.places.items }
-    ensures many { length slots.new.items ≡ length opened.new.places.items }
-    ensures free { All IsIdle slots.new.items }
-    ensures opened { AreOpened (H.lists shelf.old) (H.versions shelf.old) catalog.now (IsWanted catalog.now (map (λ line. line.now) lines.now))
-        (H.at shelf.old) (H.at shelf.new) opened.new.openings.items
-        (sources_in H.Item.list H.Item.at_hand slots.new.items opened.new.places.items opened.new.counts.items) }
-    ensures all { OnOk result (length opened.new.openings.items ≡ length catalog.now) }
-    ensures once { OnOk result (AsksWantedOnce catalog.now (map (λ line. line.now) lines.now) (H.at shelf.old) (H.at shelf.new)) }
-    ensures few { AsksWantedAtMostOnce catalog.now (map (λ line. line.now) lines.now) (H.at shelf.old) (H.at shelf.new) }
     ensures idle { (place : List ℕ) → GivesNothing (H.at shelf.old place) (H.at shelf.new place) }
-    ensures ran { IfOk result (λ outcomes. (begun : List Counts) × All IsUnread begun × RanOver settings
-        (sources_in H.Item.list H.Item.at_hand slots.new.items opened.new.places.items opened.new.counts.items)
-        begun (map (of_slot H.Item.counts) slots.new.items) (view_over catalog.now opened.new.openings.items nothing_told)
-        (map (λ line. line.now) lines.now) outcomes.items) }
-    ensures cut { OnErr result ((begun : List Counts) × All IsUnread begun × (cut : CutOver settings
-        (sources_in H.Item.list H.Item.at_hand slots.new.items opened.new.places.items opened.new.counts.items)
-        begun (map (of_slot H.Item.counts) slots.new.items) (view_over catalog.now opened.new.openings.items nothing_told)
-        (map (λ line. line.now) lines.now))
-        × (0 < cut.admitted → (length opened.new.openings.items ≡ length catalog.now)
-        × AsksWantedOnce catalog.now (map (λ line. line.now) lines.now) (H.at shelf.old) (H.at shelf.new))) }
-    ensures writable { IfOk result (λ outcomes. All CanBeWritten outcomes.items) }
+    ensures few { (lines : List (List ℕ)) → AreRead lines read.now → AsksWantedAtMostOnce catalog.now lines (H.at shelf.old) (H.at shelf.new) }
+    ensures once { (lines : List (List ℕ)) → AreRead lines read.now
+        → OnOk result (AsksWantedOnce catalog.now lines (H.at shelf.old) (H.at shelf.new)) }
+    ensures ready { IfOk result (AreReady (seen H.Item.list H.Item.states H.Item.at_hand H.Item.counts H.Item.calls) catalog.now
+        (H.knows shelf.new)) }
+    ensures opened { (lines : List (List ℕ)) → AreRead lines read.now → IfOk result (λ sources. AreOpened (H.lists shelf.old) (H.versions shelf.old)
+        catalog.now (IsWanted catalog.now lines) (H.at shelf.old) (H.at shelf.new) sources.openings.items
+        (sources_of H.Item.list H.Item.at_hand sources)) }
+    ensures closed { (lines : List (List ℕ)) → AreRead lines read.now → OnErr result (AreOpened (H.lists shelf.old) (H.versions shelf.old)
+        catalog.now (IsWanted catalog.now lines) (H.at shelf.old) (H.at shelf.new) [] no_sources) }
 {
-    let Ok(read) = read_lines(alloc, lines) else {
+    let Ok(marks) = mark_wanted(alloc, catalog, read) else {
         return Err(Memory);
     };
-    let Ok(marks) = mark_wanted(alloc, catalog, &read) else {
-        let_lines_go(read);
-        return Err(Memory);
-    };
-    let opening = open_wanted(rt, alloc, shelf, catalog, &marks, opened, slots);
+    let sources = open_wanted(rt, alloc, shelf, catalog, &marks);
     drop(marks);
-    match opening {
-        Ok(()) => run_opened(rt, alloc, catalog, opened, slots, read, settings),
-        Err(_) => {
-            let_lines_go(read);
-            Err(Memory)
-        }
-    }
+    sources
 }
 
 /// Admits the lines that were read over the open sources, and runs the queries that are ready.
@@ -154,36 +122,32 @@ fn run_opened<W: Threads + Wait + Sync, S: Source>(
     rt: &W,
     alloc: Global,
     catalog: &Catalog,
-    opened: &Opened,
-    slots: &mut Vec<Slot<S>>,
+    sources: &mut OpenSources<S>,
     read: Vec<ReadLine>,
     settings: Settings,
 ) -> Result<Vec<LineOutcome>, Memory>
     requires settings { AreSettings settings }
-    requires opened { (lists : List ℕ → Option (List Row)) × (versions : List ℕ → Option ℕ) × (marks : List Bool) × (before : Counted) × (now : Counted)
-        × AreOpened lists versions catalog.now (IsMarked marks) before now opened.now.openings.items
-        (sources_in S.list S.at_hand slots.old.items opened.now.places.items opened.now.counts.items) }
+    requires opened { (lists : List ℕ → Option (List Row)) × (versions : List ℕ → Option ℕ) × (lines : List (List ℕ)) × (before : Counted)
+        × (now : Counted) × AreOpened lists versions catalog.now (IsWanted catalog.now lines) before now sources.old.openings.items
+        (sources_of S.list S.at_hand sources.old) }
     requires read { (lines : List (List ℕ)) × AreRead lines read.items }
-    requires free { All IsIdle slots.old.items }
-    requires few { length slots.old.items ≤ length catalog.now }
-    ensures free { All IsIdle slots.new.items }
-    ensures lists { map (of_slot S.list) slots.new.items ≡ map (of_slot S.list) slots.old.items }
-    ensures versions { map (of_slot S.at_hand) slots.new.items ≡ map (of_slot S.at_hand) slots.old.items }
+    requires free { All IsIdle sources.old.slots.items }
+    requires few { length sources.old.slots.items ≤ length catalog.now }
+    ensures same { sources_of S.list S.at_hand sources.new ≡ sources_of S.list S.at_hand sources.old }
+    ensures free { All IsIdle sources.new.slots.items }
     ensures ran { (lines : List (List ℕ)) → AreRead lines read.items → IfOk result (λ outcomes. RanOver settings
-        (sources_in S.list S.at_hand slots.old.items opened.now.places.items opened.now.counts.items)
-        (map (of_slot S.counts) slots.old.items) (map (of_slot S.counts) slots.new.items) (view_over catalog.now opened.now.openings.items nothing_told)
-        lines outcomes.items) }
-    ensures cut { (lines : List (List ℕ)) → AreRead lines read.items → OnErr result (CutOver settings
-        (sources_in S.list S.at_hand slots.old.items opened.now.places.items opened.now.counts.items)
-        (map (of_slot S.counts) slots.old.items) (map (of_slot S.counts) slots.new.items) (view_over catalog.now opened.now.openings.items nothing_told)
-        lines) }
+        (sources_of S.list S.at_hand sources.old) (map (of_slot S.counts) sources.old.slots.items) (map (of_slot S.counts) sources.new.slots.items)
+        (view_over catalog.now sources.old.openings.items nothing_told) lines outcomes.items) }
+    ensures cut { (lines : List (List ℕ)) → AreRead lines read.items → OnErr result (CutOver settings (sources_of S.list S.at_hand sources.old)
+        (map (of_slot S.counts) sources.old.slots.items) (map (of_slot S.counts) sources.new.slots.items)
+        (view_over catalog.now sources.old.openings.items nothing_told) lines) }
     ensures writable { IfOk result (λ outcomes. All CanBeWritten outcomes.items) }
 {
     // Serves the prover alone: there are no more sources than entries of a catalog, so that their number is small.
-    prove!(slots.len() <= catalog.len() as usize);
+    prove!(sources.slots.len() <= catalog.len() as usize);
     let lists = Catalogued {
         catalog,
-        openings: &opened.openings,
+        openings: &sources.openings,
     };
     let Ok(admissions) = admit_all(alloc, &lists, read) else {
         return Err(Memory);
@@ -191,8 +155,8 @@ fn run_opened<W: Threads + Wait + Sync, S: Source>(
     let Ok(batch) = run_all(
         rt,
         alloc,
-        slots,
-        &opened.counts,
+        &mut sources.slots,
+        &sources.counts,
         &admissions.readies,
         settings,
     ) else {

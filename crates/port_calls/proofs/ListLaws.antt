@@ -1,5 +1,5 @@
 -- The lists of a catalog that is served, and how serving ends.
-use Rattle.std.proofs.Common.{◌≡◌, ◌≤◌, ◌<◌, ◌+◌, ℕ, zero, suc, Bool, true, false, List, [], ◌∷◌, ◌++◌, Option, Some, Result, Ok, Err, IfOk, All, Contains, length, map, take, reverse, replicate, nat_le, leb-true, leb-false, refl, sym, ap, subst, ◌∙◌, inr, arith}
+use Rattle.std.proofs.Common.{◌≡◌, ◌≤◌, ◌<◌, ◌+◌, ℕ, zero, suc, Bool, true, false, List, [], ◌∷◌, ◌++◌, Option, Some, All, Contains, length, map, take, reverse, replicate, nat_le, leb-true, leb-false, refl, sym, ap, subst, ◌∙◌, inr, arith}
 use Rattle.std.specs.Prelude.{if◌then◌else◌}
 use Rattle.std.proofs.lemmas.Bool.{false≢true}
 use Rattle.std.proofs.lemmas.List.{get_or-map, length-map, take_all}
@@ -13,8 +13,8 @@ use Rattle.catalog_text.specs.Catalog.{Listed as Entry}
 use Rattle.catalog_open.specs.declared.opened.Opening.{Opening}
 use Rattle.catalog_open.specs.declared.opened.Opening.TheVariants.{Closed, Open}
 use Rattle.catalog_open.specs.Entries.{opening_at, is_marked, IsMarked}
-use Rattle.catalog_open.specs.Openings.{AreOpened, AsksEachAtMostOnce, AsksEachOnce, Counted, IsOpening, IsSource, KeepsOthers, PutsBack, Sources, Used, counted_times, put_back}
-use Rattle.catalog_open.proofs.Once.{few_back}
+use Rattle.catalog_open.specs.Openings.{AreOpened, AsksEachAtMostOnce, AsksEachOnce, Counted, IsOpening, IsSource, KeepsOthers, PutsBack, Sources, Used, no_sources, put_back}
+use Rattle.catalog_open.proofs.Once.{few_back, once_back}
 use Rattle.catalog_run.proofs.Whole.{back_keeps, opened_for, run_moves}
 use Rattle.query_server.specs.Entries.{AreEntriesOf, IsSized}
 use Rattle.query_server.specs.OpenedEntry.{OpenedEntry}
@@ -133,21 +133,6 @@ module _ (lists : List ℕ → Option (List Row)) (versions : List ℕ → Optio
       subst (IsAtHand at_hand slots) (sym (get_or-map entry_of openings i Closed d there))
       (hand_opened list at_hand slots places counts i (opening_at openings i) (are.each i there)))
 
--- putting sources back asks for none
-once_back : (catalog : List Entry) (marks : List Bool) (back : List Used) (before mid now : Counted) → AsksEachOnce catalog marks before mid → PutsBack back mid now
-    → AsksEachOnce catalog marks before now
-once_back catalog marks back before mid now so_far puts = λ place.
-    let asks = so_far place in
-    let same : (now place).take_faults ≡ (mid place).take_faults = puts.takes place in
-    record {
-      given = asks.given;
-      failed = asks.failed;
-      all = asks.all;
-      taken = puts.taken place ∙ asks.taken;
-      faults = subst (λ n. counted_times asks.failed (before place).take_faults ≤ n) (sym same) asks.faults;
-      quiet = λ none. same ∙ asks.quiet none;
-    }
-
 -- sources were taken of a shelf and put back
 pub borrows : (catalog : List Entry) (before mid now : Shelf) (openings : List Opening) (s : Sources) (counts : List Counts)
     → SameAtEach before.texts mid.texts → SameAtEach before.lists mid.lists → SameAtEach before.versions mid.versions
@@ -203,13 +188,17 @@ pub entries_all : (place : ℕ) (openings : List Opening) (entries : List Opened
     → entries ≡ map entry_of openings
 entries_all place openings entries far so = so.is ∙ ap (map entry_of) (take_all place openings far)
 
--- what holds where memory wasn't refused
-pub if_so : {A E : Type 0} (r : Result A E) (P Q : A → Type 0) → IfOk r P → ((x : A) → P x → Q x) → IfOk r Q
-if_so (Ok x) P Q h f = f x h
-if_so (Err e) P Q h f = tt
-
-pub short : {X : Type 0} (catalog : List Entry) (xs : List X) → xs ≡ [] → length xs ≤ length catalog
-short catalog xs none = let e : length xs ≡ 0 = ap length none in omega (arith, e)
+-- none was open
+pub borrows_none : (catalog : List Entry) (before now : Shelf) → SameAtEach before.texts now.texts → SameAtEach before.lists now.lists → SameAtEach before.versions now.versions
+    → AreOpened before.lists before.versions catalog (IsOneOf catalog) before.at now.at [] no_sources → AsksEachAtMostOnce catalog (every catalog) before.at now.at
+    → BorrowsSome catalog before now
+borrows_none catalog before now t l v closed few = record {
+  tells = record { texts = t; lists = l; versions = v };
+  used = closed.used;
+  moves = closed.moves;
+  few = few;
+  others = closed.others;
+}
 
 -- the same of sources that stand in slots
 pub borrows_from : {S : Type 0} (count : S → Counts) (catalog other : List Entry) (before mid now : Shelf) (openings : List Opening) (s : Sources)

@@ -1,24 +1,24 @@
 //! The lists of a catalog, served at a port.
 
-ghost use Rattle.std.specs.Prelude.{◌≡◌, ◌≤◌, ◌<◌, ◌^◌, [], All, IfOk, OnOk, length, map};
+ghost use Rattle.std.specs.Prelude.{◌≡◌, ◌<◌, ◌^◌, [], All, IfOk, OnErr, OnOk, length, map};
 ghost use Rattle.topk_base.specs.Ranges.{AreSettings};
 ghost use Rattle.source_api.specs.Places.{SameAtEach};
-ghost use Rattle.catalog_open.specs.Slots.{IsIdle, sources_in};
-ghost use Rattle.catalog_open.specs.Openings.{AreOpened, AsksEachAtMostOnce, AsksEachOnce, IsKnownAt};
-ghost use Rattle.query_server.specs.Entries.{AreEntriesOf};
+ghost use Rattle.catalog_open.specs.Slots.{IsIdle, sources_of};
+ghost use Rattle.catalog_open.specs.Takings.{AreReady, seen};
+ghost use Rattle.catalog_open.specs.Openings.{AreOpened, AsksEachAtMostOnce, AsksEachOnce, no_sources};
 ghost use Rattle.query_server.specs.Homes.{AreHomes, home_of};
 ghost use Rattle.query_server.specs.Reopening.{IsAtHand};
 ghost use Rattle.command_line.specs.Calls.{shelf_as};
 ghost use Rattle.port_calls.specs.Ports.{ports_of};
-ghost use Rattle.port_calls.specs.Opening.{IsOneOf, entry_of, every};
+ghost use Rattle.port_calls.specs.Opening.{IsOneOf, every};
 ghost use Rattle.port_calls.specs.ServeEnds.{EndsLists, ServesPort};
 
 use super::entries::{entries_of, mark_every};
-use catalog_open::{Opened, open_wanted, put_back_all};
+use catalog_open::{OpenSources, open_wanted, put_back_all};
 use catalog_text::Catalog;
 use command_line::ServeOptions;
 use fetcher::Slot;
-use query_server::{Opened as Lists, OpenedEntry, Served, serve_all};
+use query_server::{Opened as Lists, Served, serve_all};
 use source_api::{Shelf, Source};
 use std::alloc::Global;
 use std::sync::Wait;
@@ -40,61 +40,49 @@ pub(crate) fn serve_lists<W: Threads + Wait + Sync, H: Shelf, P: Port>(
         (shelf_as H.texts H.lists H.versions H.at shelf.old) (shelf_as H.texts H.lists H.versions H.at shelf.new)
         (ports_of P.links P.closed P.faults P.calls (port.old, port.new)) result }
 {
-    let mut opened = Opened::make(alloc);
-    let mut slots = Vec::new(alloc);
-    match open_all(rt, alloc, shelf, &catalog, &mut opened, &mut slots) {
+    let Ok(mut sources) = open_all(rt, alloc, shelf, &catalog) else {
+        return Served::Memory;
+    };
+    match entries_of(alloc, &sources.openings) {
         Ok(entries) => {
             let mut lists = Lists::make(catalog, entries);
-            let served = serve_at(rt, alloc, options, &mut lists, &mut slots, port);
-            put_back_all(shelf, lists.catalog(), &opened.places, slots);
+            let served = serve_at(rt, alloc, options, &mut lists, &mut sources.slots, port);
+            put_back_all(shelf, lists.catalog(), sources);
             served
         }
         Err(_) => {
-            put_back_all(shelf, &catalog, &opened.places, slots);
+            put_back_all(shelf, &catalog, sources);
             Served::Memory
         }
     }
 }
 
-/// Opens the source of each list of a catalog, and tells what becomes of the lists.
+/// Opens the source of each list of a catalog. Where memory is refused none is open.
 fn open_all<W: Threads + Sync, H: Shelf>(
     rt: &W,
     alloc: Global,
     shelf: &mut H,
     catalog: &Catalog,
-    opened: &mut Opened,
-    slots: &mut Vec<Slot<H::Item>>,
-) -> Result<Vec<OpenedEntry>, Memory>
-    requires openings { opened.old.openings.items ≡ [] }
-    requires places { opened.old.places.items ≡ [] }
-    requires counts { opened.old.counts.items ≡ [] }
-    requires sources { slots.old.items ≡ [] }
+) -> Result<OpenSources<H::Item>, Memory>
     ensures texts { SameAtEach (H.texts shelf.old) (H.texts shelf.new) }
     ensures lists { SameAtEach (H.lists shelf.old) (H.lists shelf.new) }
     ensures versions { SameAtEach (H.versions shelf.old) (H.versions shelf.new) }
-    ensures known { All (IsKnownAt catalog.now (H.knows shelf.new)) opened.new.places.items }
-    ensures many { length slots.new.items ≡ length opened.new.places.items }
-    ensures few { length slots.new.items ≤ length catalog.now }
-    ensures idle { All IsIdle slots.new.items }
-    ensures opened { AreOpened (H.lists shelf.old) (H.versions shelf.old) catalog.now (IsOneOf catalog.now) (H.at shelf.old) (H.at shelf.new)
-        opened.new.openings.items
-        (sources_in H.Item.list H.Item.at_hand slots.new.items opened.new.places.items opened.new.counts.items) }
+    ensures few { AsksEachAtMostOnce catalog.now (every catalog.now) (H.at shelf.old) (H.at shelf.new) }
     ensures once { OnOk result (AsksEachOnce catalog.now (every catalog.now) (H.at shelf.old) (H.at shelf.new)) }
-    ensures few_asks { AsksEachAtMostOnce catalog.now (every catalog.now) (H.at shelf.old) (H.at shelf.new) }
-    ensures entries { IfOk result (λ entries. AreEntriesOf catalog.now entries.items) }
-    ensures became { IfOk result (λ entries. entries.items ≡ map entry_of opened.new.openings.items) }
-    ensures homes { IfOk result (λ entries. AreHomes (length slots.new.items) (map home_of entries.items)) }
-    ensures at_hand { IfOk result (λ entries. All (IsAtHand H.Item.at_hand slots.new.items) entries.items) }
+    ensures ready { IfOk result (AreReady (seen H.Item.list H.Item.states H.Item.at_hand H.Item.counts H.Item.calls) catalog.now
+        (H.knows shelf.new)) }
+    ensures many { IfOk result (λ sources. length sources.slots.items ≡ length sources.places.items) }
+    ensures opened { IfOk result (λ sources. AreOpened (H.lists shelf.old) (H.versions shelf.old) catalog.now (IsOneOf catalog.now)
+        (H.at shelf.old) (H.at shelf.new) sources.openings.items (sources_of H.Item.list H.Item.at_hand sources)) }
+    ensures closed { OnErr result (AreOpened (H.lists shelf.old) (H.versions shelf.old) catalog.now (IsOneOf catalog.now)
+        (H.at shelf.old) (H.at shelf.new) [] no_sources) }
 {
     let Ok(marks) = mark_every(alloc, catalog) else {
         return Err(Memory);
     };
-    let opening = open_wanted(rt, alloc, shelf, catalog, &marks, opened, slots);
+    let opening = open_wanted(rt, alloc, shelf, catalog, &marks);
     drop(marks);
-    match opening {
-        Ok(()) => entries_of(alloc, &opened.openings),
-        Err(_) => Err(Memory),
-    }
+    opening
 }
 
 /// Listens at the port, and serves its links over the lists.

@@ -11,10 +11,10 @@ invariant-loop-slot g l = record {
   texts : SameAtEach (g.H.Shelf.texts l.fn.shelf) (g.H.Shelf.texts l.shelf);
   lists : SameAtEach (g.H.Shelf.lists l.fn.shelf) (g.H.Shelf.lists l.shelf);
   versions : SameAtEach (g.H.Shelf.versions l.fn.shelf) (g.H.Shelf.versions l.shelf);
-  known : All (IsKnownAt l.catalog (g.H.Shelf.knows l.shelf)) l.places;
+  known : All (IsKnownAt l.catalog (g.H.Shelf.knows l.shelf)) l.fn.sources.places.items;
   idle : All IsIdle l.slots.items;
-  few : length l.slots.items ≤ length l.places;
-  back : BackSoFar l.catalog l.places (map (of_slot g.H.Item.Source.counts) l.fn.slots.items) (map (of_slot g.H.Item.Source.counts) l.slots.items) (g.H.Shelf.at l.fn.shelf)
+  few : length l.slots.items ≤ length l.fn.sources.places.items;
+  back : BackSoFar l.catalog l.fn.sources.places.items (map (of_slot g.H.Item.Source.counts) l.fn.sources.slots.items) (map (of_slot g.H.Item.Source.counts) l.slots.items) (g.H.Shelf.at l.fn.shelf)
       (g.H.Shelf.at l.shelf);
 }
 

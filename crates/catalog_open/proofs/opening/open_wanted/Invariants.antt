@@ -1,7 +1,7 @@
 use Rattle.std.proofs.Common.{length, reverse}
 use Rattle.catalog_open.specs.Takings.{seen, shelf_seen}
 use Rattle.catalog_open.proofs.Settling.{Settling}
-use Rattle.catalog_open.proofs.opening.open_sources.Given as goal
+use Rattle.catalog_open.proofs.opening.open_wanted.Given as goal
 
 -- the entries so far are settled; the others are left, the next one last
 abbrev pub invariant-loop-entry : goal.invariant-loop-entry
