@@ -40,7 +40,8 @@ print(seconds(), seconds() - began, file=sys.stderr)
 COMMAND = """
 began = seconds()
 from topk.commands import main
-main(["rank", sys.argv[1], "--key", "name", "--by", "price:low*2", "--by", "rating", "--by", "distance:low", "--by", "stars"])
+criteria = ["price:low*2", "rating", "distance:low", "stars"]
+main(["rank", sys.argv[1], "--key", "name", *(word for it in criteria for word in ("--by", it))])
 print(seconds(), seconds() - began, file=sys.stderr)
 """
 PANDAS = """

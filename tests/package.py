@@ -1022,7 +1022,8 @@ for wrong, hint in (({"A": [(1, 5), (1, 4)]}, "row 2 of the list A, the object 1
 
 def package_doctests(program: str) -> str | None:
     """The examples of each file and page, by `python3 -m doctest`."""
-    files = [*sorted((PYTHON / "topk").glob("[!_]*.py")), PYTHON / "topk" / "__init__.py", PYTHON / "README.md", REPOSITORY / "docs" / "LIBRARY.md"]
+    files = [*sorted((PYTHON / "topk").glob("[!_]*.py")), PYTHON / "topk" / "__init__.py"]
+    files += [PYTHON / "README.md", REPOSITORY / "docs" / "LIBRARY.md"]
     there = {**os.environ, "PYTHONPATH": str(PYTHON), "TOPK_PROGRAM": program}
     done = subprocess.run(
         [sys.executable, "-m", "doctest", *files],

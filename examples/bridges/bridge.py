@@ -151,14 +151,16 @@ def named_column(word: str) -> tuple[str, str]:
     """Reads NAME=COLUMN, or a column whose name is the list's name too."""
     name, equals, column = word.partition("=")
     if not LIST_NAME.fullmatch(name):
-        raise argparse.ArgumentTypeError(f"{name!r} is no name of a list, which is a letter, then letters, digits and _, at most 32 in all")
+        raise argparse.ArgumentTypeError(
+            f"{name!r} is no name of a list, which is a letter, then letters, digits and _, at most 32 in all")
     return name, column if equals else name
 
 
 class NewList(argparse.Action):
     """Takes a list with a name that none before it has."""
 
-    def __call__(self, parser: argparse.ArgumentParser, namespace: argparse.Namespace, values: Any, option_string: str | None = None) -> None:
+    def __call__(self, parser: argparse.ArgumentParser, namespace: argparse.Namespace, values: Any,
+                 option_string: str | None = None) -> None:
         before = getattr(namespace, self.dest) or []
         if values[0] in dict(before):
             raise argparse.ArgumentError(self, f"there are two lists {values[0]}")
@@ -166,15 +168,19 @@ class NewList(argparse.Action):
 
 
 def words(description: str, database: str) -> tuple[argparse.ArgumentParser, Any]:
-    """The words that all bridges have, of which the first says where the database is; and those of versions, of which one may be there."""
+    """The words that all bridges have, of which the first says where the database is; and those of versions, of which
+    one may be there.
+    """
     made = argparse.ArgumentParser(description=description, allow_abbrev=False)
     made.add_argument("database", help=database)
     made.add_argument("--grade", type=named_column, action=NewList, required=True, metavar="[NAME=]COLUMN",
                       help="a column of grades, which is the list NAME; once for each list")
-    made.add_argument("--at", type=number_up_to(MAX_PORT), required=True, metavar="PORT", help="the port to listen on; 0 is a free one")
+    made.add_argument("--at", type=number_up_to(MAX_PORT), required=True, metavar="PORT",
+                      help="the port to listen on; 0 is a free one")
     made.add_argument("--host", default="127.0.0.1", metavar="ADDRESS", help="the address to listen on (127.0.0.1)")
     version = made.add_mutually_exclusive_group()
-    version.add_argument("--version", type=number_up_to(MAX_VERSION), metavar="N", help="the version of the lists; 0 states none")
+    version.add_argument("--version", type=number_up_to(MAX_VERSION), metavar="N",
+                         help="the version of the lists; 0 states none")
     return made, version
 
 
@@ -184,7 +190,8 @@ def table_words(description: str, database: str) -> argparse.ArgumentParser:
     made.add_argument("--table", required=True, help="the table or view; a dot parts a schema from it")
     made.add_argument("--object", default="object", metavar="COLUMN", help="the column of objects (object)")
     made.add_argument("--make-index", action="store_true", help="make the indexes that are wanting")
-    version.add_argument("--version-query", metavar="SQL", help="a statement that gives the version, asked in each reply's transaction")
+    version.add_argument("--version-query", metavar="SQL",
+                         help="a statement that gives the version, asked in each reply's transaction")
     return made
 
 
@@ -193,7 +200,8 @@ def serve_table(given: argparse.Namespace, database: Database) -> str | None:
     pool, version = Pool(database), given.version_query or given.version
     if version is None:
         version = States() if database.state else 0
-    lists = {name: RankedTable(database, pool, given.table, (given.object, column), version) for name, column in given.grade}
+    lists = {name: RankedTable(database, pool, given.table, (given.object, column), version)
+             for name, column in given.grade}
     for name, it in lists.items() if given.make_index else ():
         try:
             it.make_indexes()

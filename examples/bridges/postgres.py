@@ -40,7 +40,9 @@ def is_keyed(cursor: psycopg2.extensions.cursor, table: str, column: str) -> boo
 
 
 def snapshot(cursor: psycopg2.extensions.cursor) -> str:
-    """Which transactions have ended that a transaction sees: equal for two only where none that writes has ended between them."""
+    """Which transactions have ended that a transaction sees: equal for two only where none that writes has ended
+    between them.
+    """
     cursor.execute("select txid_current_snapshot()::text", ())
     return cursor.fetchone()[0]
 

@@ -1,8 +1,9 @@
 """A column of a table as a ranked list: its size, its rows from a place on, the grade of an object.
 
-The rows of a list are (object, grade), by grade falling and then by object rising. An index on (grade desc, object) has them in this
-order, so that no statement here sorts a table. A page that begins far down isn't counted off from the top either: the rows before the
-places `STEP`, 2 * `STEP` and so on are remembered, as marks, and a page begins from the last of them above it.
+The rows of a list are (object, grade), by grade falling and then by object rising. An index on (grade desc, object)
+has them in this order, so that no statement here sorts a table. A page that begins far down isn't counted off from the
+top either: the rows before the places `STEP`, 2 * `STEP` and so on are remembered, as marks, and a page begins from the
+last of them above it.
 """
 from __future__ import annotations
 
@@ -56,7 +57,9 @@ class Database(NamedTuple):
     index: Callable[[str, str], str] | None = None
     """The name of an index over a table and a column, as the statement that makes it has it."""
     state: Callable[[Any], Any] | None = None
-    """What a transaction sees, by its cursor: two are equal only where nothing was changed between them. None where nothing cheap tells."""
+    """What a transaction sees, by its cursor: two are equal only where nothing was changed between them. None where
+    nothing cheap tells.
+    """
     change: Callable[[], Any] | None = None
     """Opens a connection that may make an index."""
 
@@ -84,7 +87,7 @@ class Pool:
             self._idle.put(connection)
 
     def _begun(self) -> Any:
-        """A connection in a transaction: an idle one, where its database hasn't been restarted meanwhile, or else a new one."""
+        """A connection in a transaction: an idle one, where its database hasn't been restarted, or else a new one."""
         with contextlib.suppress(queue.Empty):
             while True:
                 connection = self._idle.get_nowait()
@@ -100,7 +103,9 @@ class Pool:
 
 
 class States:
-    """Numbers for the states of a database. They rise, and begin with the clock's microseconds, so that they do from one start to the next."""
+    """Numbers for the states of a database. They rise, and begin with the clock's microseconds, so that they do from
+    one start to the next.
+    """
 
     def __init__(self) -> None:
         self._lock = threading.Lock()
@@ -125,8 +130,12 @@ class Known(NamedTuple):
 class RankedTable:
     """A list of a table. Each call sees one state of the database, and answers the body of a reply."""
 
-    def __init__(self, database: Database, pool: Pool, table: str, columns: tuple[str, str], version: int | str | States) -> None:
-        """The columns are those of objects and of grades; the version is a number, a statement that gives it, or that of the state."""
+    def __init__(
+        self, database: Database, pool: Pool, table: str, columns: tuple[str, str], version: int | str | States
+    ) -> None:
+        """The columns are those of objects and of grades; the version is a number, a statement that gives it, or that
+        of the state.
+        """
         self._database, self._table, self._columns = database, table, columns
         self._names = {
             "table": ".".join(map(database.quote, table.split("."))),
@@ -156,7 +165,9 @@ class RankedTable:
                     checked(found, self._table, self._columns)
 
     def size(self) -> dict[str, Any]:
-        """Counts the rows, by an index. The marks are forgotten: a table whose version isn't stated may be another one by now."""
+        """Counts the rows, by an index. The marks are forgotten: a table whose version isn't stated may be another one
+        by now.
+        """
         with self._reading() as (cursor, version):
             cursor.execute(self._size, ())
             count, gradeless, *ends = cursor.fetchone()
@@ -169,7 +180,9 @@ class RankedTable:
         return stated({"count": count}, version)
 
     def page(self, first: int, count: int) -> dict[str, Any]:
-        """The rows from a place on. Where the marks above it are known, two ranges of at most count + STEP - 1 rows are read."""
+        """The rows from a place on. Where the marks above it are known, two ranges of at most count + STEP - 1 rows are
+        read.
+        """
         with self._reading() as (cursor, version):
             marks = self._marks(cursor, version, first // STEP)
             rows = self._rows(cursor, marks, first - STEP * len(marks), count)
@@ -237,7 +250,8 @@ def checked(row: Sequence[Any], table: str, columns: tuple[str, str]) -> None:
         f"make a column of whole grades, as by: alter table {table} add column {columns[1]}_grade integer "
         f"generated always as (round({columns[1]} * 1000)) stored; in SQLite virtual in place of stored",
     )
-    for what, value, kind, limit, column, cure in zip(("object", "grade"), (item, grade), kinds, (MAX_NUMBER, MAX_GRADE), columns, cures):
+    for what, value, kind, limit, column, cure in zip(
+            ("object", "grade"), (item, grade), kinds, (MAX_NUMBER, MAX_GRADE), columns, cures):
         try:
             if kind in WHOLE:
                 whole(value, limit)

@@ -27,7 +27,7 @@ class SortedSet:
         self._client, self._key, self._version, self._version_key = client, key, version, version_key
 
     def check(self) -> None:
-        """Raises ValueError with the first row whose member is no object or whose score is no grade. Reads the set once."""
+        """Raises ValueError with the first row that has no object or no grade. Reads the set once."""
         if not self._client.exists(self._key):
             raise ValueError(f"there is no sorted set {self._key!r}")
         first, rows = 0, [(b"", 0.0)]
@@ -75,19 +75,21 @@ def checked(key: str, place: int, member: bytes, score: float) -> None:
     try:
         number(member)
     except ValueError:
-        raise ValueError(f"{where}: each member has to be a whole number from 0 to {MAX_NUMBER}, without zeros before it; "
-                         "number the objects, and keep their names in a hash beside the set") from None
+        raise ValueError(f"{where}: each member has to be a whole number from 0 to {MAX_NUMBER}, without zeros before "
+                         "it; number the objects, and keep their names in a hash beside the set") from None
     try:
         whole(score, MAX_GRADE)
     except ValueError:
-        raise ValueError(f"{where}: each score has to be a whole number from 0 to {MAX_GRADE}; "
-                         "scale and round the scores into another set, as ZADD does where the objects are added") from None
+        raise ValueError(f"{where}: each score has to be a whole number from 0 to {MAX_GRADE}; scale and round the "
+                         "scores into another set, as ZADD does where the objects are added") from None
 
 
 def main() -> str | None:
     """What the process ends with: nothing, or why it can't serve."""
-    words, version = bridge.words(__doc__.splitlines()[0], "where it is, as redis://127.0.0.1:6379/0 or unix:///run/redis.sock")
-    version.add_argument("--version-key", metavar="KEY", help="the key of a string that has the version, read in each reply's transaction")
+    words, version = bridge.words(
+        __doc__.splitlines()[0], "where it is, as redis://127.0.0.1:6379/0 or unix:///run/redis.sock")
+    version.add_argument("--version-key", metavar="KEY",
+                         help="the key of a string that has the version, read in each reply's transaction")
     given = words.parse_args()
     if not hasattr(redis, "Redis"):
         return "there is no client library for Redis: install python3-redis"
@@ -97,7 +99,8 @@ def main() -> str | None:
     except ValueError as fault:
         return f"{given.database}: {fault}"
     client = redis.Redis(connection_pool=pool)
-    return bridge.serve(given, {name: SortedSet(client, key, given.version or 0, given.version_key) for name, key in given.grade})
+    lists = {name: SortedSet(client, key, given.version or 0, given.version_key) for name, key in given.grade}
+    return bridge.serve(given, lists)
 
 
 if __name__ == "__main__":

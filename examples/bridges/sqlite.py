@@ -39,14 +39,18 @@ def is_keyed(cursor: sqlite3.Cursor, table: str, column: str) -> bool:
 
 
 class Watch:
-    """A connection of its own that sees whether the file was changed. It waits for no writer, since one may wait for the transaction itself."""
+    """A connection of its own that sees whether the file was changed. It waits for no writer, since one may wait for
+    the transaction itself.
+    """
 
     def __init__(self, place: str) -> None:
         self._lock = threading.Lock()
         self._connection = sqlite3.connect(place, uri=True, isolation_level=None, check_same_thread=False, timeout=0)
 
     def __call__(self, cursor: sqlite3.Cursor) -> Any:
-        """What a transaction sees: how often the file was changed, where that is the same before its first read and behind it."""
+        """What a transaction sees: how often the file was changed, where that is the same before its first read and
+        behind it.
+        """
         before = self._changes()
         cursor.execute("select 1 from sqlite_master limit 1").fetchone()
         return before if self._changes() == before else object()

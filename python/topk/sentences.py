@@ -1,7 +1,7 @@
 """What topk says, in sentences: what each refusal, verdict and status means, and what to do about it.
 
-The sentences stand in `refusals.js` beside this file, a copy of the one that the page of certificates reads: it is JSON from
-its first brace to its last.
+The sentences stand in `refusals.js` beside this file, a copy of the one that the page of certificates reads: it is
+JSON from its first brace to its last.
 """
 from __future__ import annotations
 
