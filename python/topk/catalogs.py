@@ -122,13 +122,7 @@ class Catalog:
         asks = core or found_core()
         used = [self.entries[name] for name in names_in(asked.expression)]
         if isinstance(asks, Library) and any(it.is_far or not it.sorted for it in used):
-            program = find_program()
-            if program is None:
-                raise NoCore(
-                    "lists of hosts, and such that can't be read from the top, need the program topk: "
-                    "TOPK_PROGRAM may name it"
-                )
-            asks = program
+            asks = _needed_program()
         return self._named(asked, self._asked(asks, asked, used), asks)
 
     def _asked(self, asks: Library | Program, asked: Question, used: Iterable[Entry]) -> Answer:
@@ -155,6 +149,16 @@ class Catalog:
         if given not in self.entries:
             raise unknown("list", str(given), self.entries)
         return str(given)
+
+
+def _needed_program() -> Program:
+    """The program, for what the library can't do."""
+    program = find_program()
+    if program is None:
+        raise NoCore(
+            "lists of hosts, and such that can't be read from the top, need the program topk: TOPK_PROGRAM may name it"
+        )
+    return program
 
 
 def write_lists(

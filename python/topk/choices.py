@@ -40,21 +40,15 @@ def chosen(
             f"{', '.join(unordered)} can't be read in order"
         )
     if unordered:
-        return Choice(
-            "taz",
-            f"the list {', '.join(unordered)} can't be read in order"
-            if len(unordered) == 1
-            else f"the lists {', '.join(unordered)} can't be read in order",
-        )
+        return Choice("taz", f"{_lists(unordered)} can't be read in order")
     if named:
-        return Choice(
-            "nra",
-            f"the list {named[0]} gives no grades"
-            if len(named) == 1
-            else f"the lists {', '.join(named)} give no grades",
-        )
+        return Choice("nra", f"{_lists(named)} {'gives' if len(named) == 1 else 'give'} no grades")
     if cost[1] <= cost[0]:
         return Choice("ta", "each list gives grades, and a grade costs no more than a row")
     if {"min", "median"} & set(operators):
         return Choice("nra", "a grade costs more than a row, and by min or median ca may take long")
     return Choice("ca", "a grade costs more than a row")
+
+
+def _lists(names: Collection[str]) -> str:
+    return f"the list{'s' if len(names) > 1 else ''} {', '.join(names)}"

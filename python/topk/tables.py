@@ -14,7 +14,7 @@ from topk.criteria import Criterion
 from topk.faults import LimitPassed, TableError, unknown
 from topk.keys import checked_keys, objects_of
 from topk.limits import MAX_CATALOG, MAX_ROWS
-from topk.questions import question
+from topk.questions import Question, question
 from topk.ranking import ranked_rows
 from topk.reading import (
     columns_of_csv,
@@ -279,21 +279,7 @@ class Table:
             room=room,
             without_grades=[name for name, it in self._criteria.items() if not it.grades],
         )
-        lists = {name: self.ranked_list(it) for name, it in used.items()}
-        asks = core or found_core()
-        given = asks.answer_rows({name: it.rows for name, it in lists.items()}, asked.query)
-        rounding = rounding_of(
-            asked, {name: it.error for name, it in lists.items()}, {name: it.outside for name, it in lists.items()}
-        )
-        return named_answer(
-            asked,
-            given,
-            asks,
-            lambda item: self._cell(self._keys, item),
-            lambda name, item: self._cell(lists[name].grades, item) if name in lists else None,
-            lambda name, item: self._cell(self._columns[used[name].column], item),
-            rounding,
-        )
+        return self._answered(asked, used, core or found_core())
 
     def write_lists(
         self,
@@ -314,6 +300,23 @@ class Table:
             raise LimitPassed(f"a catalog has at most {MAX_CATALOG} lists, and not {len(wanted)}")
         lists = {it.name: (self.ranked_list(it).rows, it.grades) for it in wanted}
         return write_lists(folder, self.objects, self._keys, lists, progress)
+
+    def _answered(self, asked: Question, used: Mapping[str, Criterion], core: Core) -> NamedAnswer:
+        """The core's answer to a question that uses these criteria, with keys, values and grades."""
+        lists = {name: self.ranked_list(it) for name, it in used.items()}
+        given = core.answer_rows({name: it.rows for name, it in lists.items()}, asked.query)
+        rounding = rounding_of(
+            asked, {name: it.error for name, it in lists.items()}, {name: it.outside for name, it in lists.items()}
+        )
+        return named_answer(
+            asked,
+            given,
+            core,
+            lambda item: self._cell(self._keys, item),
+            lambda name, item: self._cell(lists[name].grades, item) if name in lists else None,
+            lambda name, item: self._cell(self._columns[used[name].column], item),
+            rounding,
+        )
 
     def _add(self, it: Criterion) -> None:
         if it.column not in self._columns:
