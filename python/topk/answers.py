@@ -67,12 +67,16 @@ class Rounding:
         return self.score == 0
 
     def __str__(self) -> str:
+        return self.in_words(f"{float(self.score):g} in score")
+
+    def in_words(self, bound: str) -> str:
+        """What it may do, in a sentence, with the bound as these words have it."""
         if self.exact:
             return "No grade was rounded: the order is that of the values."
         most = float(max(self.parts.values()))
         return (
             f"Values were rounded to grades, by at most {most / 2:g} parts of a million of a criterion's span: "
-            f"by the values no row outside is better than one inside by more than {float(self.score):g} in score."
+            f"by the values no row outside is better than one inside by more than {bound}."
         )
 
 

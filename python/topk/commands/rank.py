@@ -115,7 +115,8 @@ def _as_lines(answer: NamedAnswer, names: dict[str, str], key: str, verdict: str
         above, below = answer.guarantee
         lines.append(f"No row outside has more than {above}/{below} times the score of one inside.")
     if answer.rounding:
-        lines.append(str(answer.rounding))
+        parts = float(1_000_000 * answer.rounding.score / (answer.most or 1))  # As the scores are shown.
+        lines.append(answer.rounding.in_words(f"{parts:g} in 1,000,000 of the best score"))
         for name, count in answer.rounding.outside.items():
             lines += [f"{count} values of {names[name]} are beyond the ends of the scale."] if count else []
     if verdict is not None:
