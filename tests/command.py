@@ -135,28 +135,28 @@ def command_wrong_words(program: str) -> str | None:
     """What can't be: a line that says so, the nearest name where one is mistyped, and nothing is written."""
     table = ("rank", "hotels.csv", "--key", "name")
     rows = [
-        (1, "There is no column 'prize': did you mean 'price'?", (*table, "--by", "prize:low")),
-        (1, "There is no column 'nam': did you mean 'name'?", ("rank", "hotels.csv", "--key", "nam", "--by", "price")),
-        (1, "There is no column 'cty': did you mean 'city'?", (*table, "--by", "price", "--where", "cty=Bern")),
+        (1, "topk: there is no column 'prize': did you mean 'price'?", (*table, "--by", "prize:low")),
+        (1, "no column 'nam': did you mean 'name'?", ("rank", "hotels.csv", "--key", "nam", "--by", "price")),
+        (1, "topk: there is no column 'cty': did you mean 'city'?", (*table, "--by", "price", "--where", "cty=Bern")),
         (1, "has 'Bern' in the column city, which is no number", (*table, "--by", "city")),
         (1, "has no rating, and the criterion refuses that", (*table, "--by", "rating:missing=refuse")),
-        (1, "Row 1 ('120') has 'Adler, old'", ("rank", "hotels.csv", "--key", "price", "--by", "name")),
+        (1, "topk: row 1 ('120') has 'Adler, old'", ("rank", "hotels.csv", "--key", "price", "--by", "name")),
         (1, "two criteria are called 'price'", (*table, "--by", "price", "--by", "price:low")),
         (1, "< compares numbers", (*table, "--by", "price", "--where", "city<Bern")),
         (1, "no row to rank", (*table, "--by", "price", "--where", "city=Rome")),
-        (1, "Nothing.csv: No such file", ("rank", "Nothing.csv", "--by", "price")),
+        (1, "topk: nothing.csv: No such file", ("rank", "nothing.csv", "--by", "price")),
         (1, "k is a whole number from 1 on", (*table, "--by", "price", "--top", "0")),
         (1, "goes wrong after its first", (*table, "--by", "price", "--using", "magic")),
         (2, "two settings of one kind", (*table, "--by", "price:low:high")),
         (2, "required: --by", table),
         (2, "required: --out", ("lists", "hotels.csv", "--by", "price")),
         (2, "invalid choice: 'rnk'", ("rnk",)),
-        (1, "There is no column 'prize'", ("lists", "hotels.csv", "--by", "prize", "--out", "out")),
+        (1, "topk: there is no column 'prize'", ("lists", "hotels.csv", "--by", "prize", "--out", "out")),
     ]
     with folder() as place:
         for status, words, given in rows:
             said = command(program, *given, place=place)
-            if said[0] != status or said[1] or words.lower() not in said[2].lower() or "Traceback" in said[2]:
+            if said[0] != status or said[1] or words not in said[2] or "Traceback" in said[2]:
                 return f"{given}: {said}"
         left = sorted(it.name for it in place.iterdir())
         lost = command("/nowhere/topk", *table, "--by", "price", place=place)
@@ -375,7 +375,7 @@ def command_check(program: str) -> str | None:
     return first_wrong([
         ("the faults", said[1].splitlines(), wanted),
         ("the status", said[0], 1),
-        ("a bad catalog", (bad[0], "Record 2 of" in bad[2]), (1, True)),
+        ("a bad catalog", (bad[0], "topk: record 2 of" in bad[2]), (1, True)),
         ("many faults", (len(many), many[-1].strip()), (11, "and 20 more there (--all prints them)")),
         ("all of them", len(whole), 30),
     ])  # fmt: skip

@@ -152,8 +152,8 @@ def _number(cell: Any, row: int, column: str, where: Callable[[int], str]) -> Nu
     found = _number_in_text(cell) if isinstance(cell, str) else _plain(cell)
     if found is None:
         raise TableError(
-            f"{where(row)} has {cell!r} in the column {column}, which is no number: "
-            "criterion(.., value=) says how to read it"
+            f"{where(row)} has {cell!r} in the column {column}, which is no number, as 1234.5 is; "
+            "in Python criterion(.., value=) says how to read it"
         )
     if found != found:
         return None

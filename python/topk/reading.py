@@ -61,7 +61,7 @@ def _records(text: str, delimiter: str, path: str) -> tuple[list[str], list[str]
         if len(row) != len(names):
             raise TableError(
                 f"{path}: row {number} has {len(row)} fields, and the header has {len(names)}: "
-                f"{delimiter.join(row)[:80]!r}"
+                f"{delimiter.join(row)[:80]!r}, where {delimiter!r} is the delimiter"
             )
     return names, list(itertools.chain.from_iterable(rows))
 

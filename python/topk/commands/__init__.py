@@ -32,7 +32,7 @@ def main(given: Sequence[str] | None = None) -> int:
         return _said(str(fault))
     except Refused as fault:
         said = meaning([fault.name, *map(str, fault.fields)])
-        return _said(f"topk refuses: {fault}" if said == UNHEARD else f"{said.sentence} {said.cure}")
+        return _said(f"refused {fault}" if said == UNHEARD else f"{said.sentence} {said.cure}")
     except OSError as fault:
         return _said(f"{fault.filename}: {fault.strerror}" if fault.filename else str(fault))
     except UnicodeDecodeError as fault:
@@ -44,7 +44,7 @@ def main(given: Sequence[str] | None = None) -> int:
 
 
 def _said(why: str) -> int:
-    print(why[:1].upper() + why[1:], file=sys.stderr)
+    print(f"topk: {why}", file=sys.stderr)
     return 1
 
 
