@@ -189,7 +189,7 @@ def table_words(description: str, database: str) -> argparse.ArgumentParser:
     made, version = words(description, database)
     made.add_argument("--table", required=True, help="the table or view; a dot parts a schema from it")
     made.add_argument("--object", default="object", metavar="COLUMN", help="the column of objects (object)")
-    made.add_argument("--make-index", action="store_true", help="make the indexes that are wanting")
+    made.add_argument("--make-index", action="store_true", help="make those of the indexes that are missing")
     version.add_argument("--version-query", metavar="SQL",
                          help="a statement that gives the version, asked in each reply's transaction")
     return made

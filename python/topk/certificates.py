@@ -120,7 +120,7 @@ class Beaten:
     low: int
     """Its aggregate on that table."""
     outside: int
-    """An object outside the answer that beats it there."""
+    """An object outside the answer that has more there."""
     high: int
     """Its aggregate on that table."""
     counter: str

@@ -68,7 +68,7 @@ def explained(text: str, keys: dict[int, str] | None = None) -> Iterator[str]:
 
 def _parts(text: str) -> Iterator[str]:
     """Certificates, each whole, and what stands between them, line by line. Behind a verdict that the answer is beaten
-    stands the table that beats it.
+    stands the counterexample.
     """
     lines = iter(text.splitlines())
     for line in lines:
