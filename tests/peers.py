@@ -19,26 +19,21 @@ from support import (HOTELS, REPOSITORY, differs, first_difference, hotel_lists,
 
 EXAMPLE = REPOSITORY / "examples" / "nginx.conf"
 QUERY = "top 2 by min(price,rating,centre) using nra"
-# One nginx, in the foreground, that writes nowhere but to its folder.
-ALONE = """daemon off; master_process off; pid {place}/pid; error_log {place}/log;
-events {{ worker_connections 200; }}
-http {{
-    access_log off;
-    client_body_temp_path {place}; proxy_temp_path {place}; fastcgi_temp_path {place};
-    uwsgi_temp_path {place}; scgi_temp_path {place};
-    {http}
-}}
-"""
+# One nginx, in the foreground, that writes nowhere but to its folder: what goes before its settings, and into `http`.
+ALONE = "daemon off; master_process off; pid {place}/pid; error_log {place}/log;\n"
+FOLDERS = " ".join(["access_log off;", *(f"{it}_temp_path {{place}};" for it in (
+    "client_body", "proxy", "fastcgi", "uwsgi", "scgi"))])
 
 
 @contextlib.contextmanager
-def nginx(http: str) -> Iterator[int]:
-    """An nginx of which this stands in `http`, `PORT` being its port: the port."""
+def nginx(settings: str) -> Iterator[int]:
+    """An nginx with these settings, in which `PORT` is its port: the port."""
     program = shutil.which("nginx") or shutil.which("nginx", path="/usr/sbin:/usr/local/sbin")
     if program is None:
         raise Skipped("there is no nginx")
     with free_port() as port, tempfile.TemporaryDirectory() as place:
-        write(place, "nginx.conf", ALONE.format(place=place, http=http.replace("PORT", str(port))))
+        text = (ALONE + settings.replace("http {", "http { " + FOLDERS)).replace("{place}", place)
+        write(place, "nginx.conf", text.replace("PORT", str(port)))
         words = [program, "-p", place, "-e", f"{place}/log", "-c", f"{place}/nginx.conf"]
         tried = peer([*words, "-t"])
         if tried.returncode != 0:
@@ -51,11 +46,19 @@ def nginx(http: str) -> Iterator[int]:
                 process.kill()
 
 
-def from_example(port: int) -> str:
-    """What stands in `http` of examples/nginx.conf, before a server at this port, without TLS."""
-    text = EXAMPLE.read_text(encoding="utf-8").partition("\nhttp {\n")[2].partition("\n}\n")[0]
-    plain = re.sub(r"^ *ssl_.*\n", "", text, flags=re.MULTILINE).replace("listen 443 ssl;", "listen 127.0.0.1:PORT;")
-    return plain.replace("http://127.0.0.1:8000;", f"http://127.0.0.1:{port};")
+def over_http(server: str) -> str:
+    """The settings of an nginx with one server."""
+    return f"events {{}} http {{ server {{ listen 127.0.0.1:PORT; {server} }} }}"
+
+
+def from_example(first: int, second: int | None = None) -> str:
+    """examples/nginx.conf before servers at these ports, or before one alone, without TLS."""
+    text = re.sub(r"^ *ssl_.*\n", "", EXAMPLE.read_text(encoding="utf-8"), flags=re.MULTILINE)
+    places = {"listen 443 ssl;": "listen 127.0.0.1:PORT;", "127.0.0.1:8000": f"127.0.0.1:{first}",
+              "127.0.0.1:8001": f"127.0.0.1:{second or first}"}
+    for there, here in places.items():
+        text = text.replace(there, here)
+    return text
 
 
 def said(port: int, request: bytes) -> bytes:
@@ -114,7 +117,7 @@ def behind_nginx(program: str) -> str | None:
             silent.enter_context(socket.create_connection(("127.0.0.1", front), SECONDS))
         for line in servers.LINES:
             given = said(front, request(line))
-            if not given.startswith(b"HTTP/1.1 200 OK\r\n"):
+            if not given.startswith(b"HTTP/1.1 200 OK\r\n") or b"\r\nX-Content-Type-Options: nosniff\r\n" not in given:
                 return f"{line}: replied {given[:300]!r}"
             wrong = first_difference(given.partition(b"\r\n\r\n")[2], servers.body(line))
             if wrong is not None:
@@ -165,13 +168,13 @@ def nginx_as_proxy(program: str) -> str | None:
         ports = {name: held.enter_context(node(program, name))[0] for name in HOTELS}
         passed = "location /lists/{}/ {{ proxy_pass http://127.0.0.1:{}; }}\n".format
         places = "".join(passed(name, port) for name, port in ports.items())
-        front = held.enter_context(nginx(f"server {{ listen 127.0.0.1:PORT; {places} }}"))
+        front = held.enter_context(nginx(over_http(places)))
         return run_over(program, front) or run_over(program, front, "--page", "3", "--workers", "1")
 
 
 def nginx_as_source(program: str) -> str | None:
     """Static files behind nginx are a source."""
-    with static_lists() as place, nginx(f"server {{ listen 127.0.0.1:PORT; root {place}; }}") as port:
+    with static_lists() as place, nginx(over_http(f"root {place};")) as port:
         return run_over(program, port)
 
 

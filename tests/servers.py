@@ -99,21 +99,21 @@ def at_once(program: str) -> str | None:
 
 
 @contextlib.contextmanager
-def slow_clients(port: int, count: int) -> Iterator[list[socket.socket]]:
+def slow_clients(port: int, count: int, silent: bool = False) -> Iterator[list[socket.socket]]:
     """Clients that have sent the front of a request, and send a byte more every now and then, so that each holds a
-    worker as long as this lasts."""
+    worker as long as this lasts; or that send nothing."""
     ended, links = threading.Event(), list[socket.socket]()
 
     def feed() -> None:
         with contextlib.suppress(OSError):
-            while not ended.wait(0.5):
+            while not silent and not ended.wait(0.5):
                 for link in links:
                     link.sendall(b"a")
 
     with contextlib.ExitStack() as held:
         for _ in range(count):
             links.append(held.enter_context(socket.create_connection(("127.0.0.1", port), SECONDS)))
-            links[-1].sendall(b"GET /top?q=")
+            links[-1].sendall(b"" if silent else b"GET /top?q=")
         feeding = threading.Thread(target=feed, daemon=True)
         feeding.start()
         try:
