@@ -25,7 +25,8 @@ SMALLEST: dict[str, Sequence[str]] = {
     "files": ("topk", "--counts", "50", "--lists", "2", "--queries", "2", "--workers", "1", "--rounds", "1"),
     "gate": ("--", "true"), "library": ("--lists", "2", "--count", "20", "--rounds", "1"), "nodes": ("topk", "100"),
     "package": ("--rows", "50", "--rounds", "1"),
-    "responses": ("--rows", "10", "--rounds", "1"), "serve": ("topk", "--requests", "10"),
+    "responses": ("--rows", "10", "--rounds", "1"),
+    "serve": ("topk", "--requests", "10", "--clients", "1", "4", "--workers", "1"),
     "threads": ("--counts", "20", "--lists", "2", "--queries", "2", "--times", "1", "--timed", "1", "--rounds", "1"),
 }
 # Files that a bench needs, and why it is skipped where one isn't there.
