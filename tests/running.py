@@ -149,7 +149,7 @@ def slow_behind_nginx(program: str) -> str | None:
     return None
 
 
-def limits_of_nginx(_: str) -> str | None:
+def limits_of_nginx(_program: str) -> str | None:
     """The nginx of examples/nginx.conf has at most 16 requests of a client's address with its servers, and 128 in all:
     one more is refused with 503."""
     def asked(address: int) -> socket.socket:
