@@ -7,6 +7,7 @@ import pathlib
 import re
 from collections.abc import Callable, Iterator
 
+import rows
 from support import (REPOSITORY, Lists, differs, first_difference, list_text, module_at, ranked, rows_in, run,
                      worked_out)
 
@@ -14,18 +15,16 @@ CASES = pathlib.Path(__file__).resolve().parent / "cases"
 TOP_GRADE, WORD = 1_000_000, 1 << 64
 
 
-def case_lists(folder: pathlib.Path, text: str) -> tuple[Lists, list[str]]:
-    """The lists of a case, those of its bundle or of the files that its catalog names, and the names of those that
+def case_lists(run_of: rows.Row) -> tuple[Lists, list[str]]:
+    """The lists of a run, those of its bundle or of the files that its catalog names, and the names of those that
     can't be read from the top."""
-    if not (folder / "files").is_dir():
-        sections = re.findall(r"^list (\w+)\n((?:\d+,\d+\n)*)", text, re.MULTILINE)
-        return {name: rows_in(rows) for name, rows in sections}, []
-    words = (folder / "words").read_text(encoding="utf-8").split()
-    named = next(it for it in words[1:] if (folder / "files" / it).is_file())
-    records = [it.split(",") for it in (folder / "files" / named).read_text(encoding="utf-8").split()[1:]]
-    places = {name: folder / "files" / place for name, place, *_ in records}
-    lists = {name: rows_in(path.read_text(encoding="utf-8")) for name, path in places.items() if path.is_file()}
-    return lists, [it[0] for it in records if it[3:] == ["no"]]
+    if not run_of.files:
+        sections = re.findall(r"^list (\w+)\n((?:\d+,\d+\n)*)", run_of.input.decode("latin-1"), re.MULTILINE)
+        return {name: rows_in(text) for name, text in sections}, []
+    catalog = next(run_of.files[it] for it in run_of.words[1:] if it in run_of.files)
+    records = [it.split(",") for it in catalog.decode("latin-1").split()[1:]]
+    texts = {name: run_of.files[place] for name, place, *_ in records if place in run_of.files}
+    return {name: rows_in(text.decode()) for name, text in texts.items()}, [it[0] for it in records if it[3:] == ["no"]]
 
 
 def outcomes(text: str) -> list[str]:
@@ -33,26 +32,31 @@ def outcomes(text: str) -> list[str]:
     return re.findall(r"^(?:refused .*\n|certificate (?:.*\n)*?end\n)", text, re.MULTILINE)
 
 
+def wrong_with_certificates(run_of: rows.Row) -> tuple[int, str | None]:
+    """How many certificates that a run wants were worked out, and the first difference."""
+    wanted = [it for it in outcomes(run_of.output.decode("latin-1")) if it.startswith("certificate ")]
+    if not wanted:
+        return 0, None
+    lists, no_sorted = case_lists(run_of)
+    for text in wanted:
+        number, query = text.split("\n")[0].split(" ")[1], text.split("\n")[1].removeprefix("query ")
+        known = worked_out([query], lists, no_sorted).replace(b"certificate 1\n", f"certificate {number}\n".encode())
+        if wrong := first_difference(text.encode(), known):
+            return 0, wrong
+    return len(wanted), None
+
+
 def cases_are_worked_out(_: str) -> str | None:
     """Each certificate that a case of `one` or `run` wants is what its query line comes to."""
     anchored = 0
     for folder in sorted(CASES.iterdir()):
-        words = (folder / "words").read_text(encoding="utf-8").split()
-        if words[:1] not in (["one"], ["run"]):
-            continue
-        text = (folder / "input").read_text(encoding="utf-8") if (folder / "input").exists() else ""
-        lists, no_sorted = case_lists(folder, text)
-        for wanted in outcomes((folder / "output").read_text(encoding="utf-8")):
-            head = re.match(r"certificate (\d+)\nquery (.*)\n", wanted)
-            if head is None:
-                continue
-            known = worked_out([head[2]], lists, no_sorted)
-            known = known.replace(b"certificate 1\n", f"certificate {head[1]}\n".encode())
-            wrong = first_difference(wanted.encode(), known)
-            if wrong is not None:
-                return f"{folder.name}: {wrong}"
-            anchored += 1
-    return None if anchored > 5 else f"only {anchored} certificates were worked out"
+        for run_of in rows.runs_of(folder):
+            if run_of.words[:1] in (["one"], ["run"]):
+                number, wrong = wrong_with_certificates(run_of)
+                if wrong is not None:
+                    return f"{folder.name}: {run_of.label}: {wrong}"
+                anchored += number
+    return None if anchored > 50 else f"only {anchored} certificates were worked out"
 
 
 def made_table(start: int, count: int, lists: int) -> Lists:

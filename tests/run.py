@@ -5,12 +5,12 @@ Use, from anywhere: python3 tests/run.py [--program PATH] [--minutes N] [--libra
 
 Without names all tests run. Each folder of cases/ is one: `words` (a word a line), `input` (standard input, empty where
 there is none), `files/` (copied to where the program runs), `output` (what it has to write) and `status` (0 where there
-is none).
+is none). A folder with `rows` is a table of runs, which rows.py reads.
 
 A test that needs more than a folder stands in a file of this folder, by topic; its head says of what. Such a file is
 taken up by being here. It has a function `tests()` that yields names, each with a function that is given the program's
 path and answers what is wrong, or None; an exception is wrong too. What tests share stands in support.py, what the
-machine has in machine.py; these two, and this one, have no tests.
+machine has in machine.py; these two, rows.py and this one have no tests.
 
 A test is skipped only where a peer isn't installed (`machine.path_of`, `machine.Skipped`) and skips.txt has the reason
 beside the test's name. Any other skip fails. So does what the machine lacks, what hangs, and a test that hasn't begun
@@ -43,13 +43,14 @@ import traceback
 from collections.abc import Callable, Iterable, Iterator
 
 import machine
+import rows
 import support
 
 OLDEST = (3, 9)
 HERE = pathlib.Path(__file__).resolve().parent
 PROGRAM = HERE.parent / "crates" / "topk" / "out" / "topk"
 # What stands beside the tests and has none.
-NO_TESTS = {"run", "support", "machine"}
+NO_TESTS = {"run", "rows", "support", "machine"}
 # Tests that wait most of their time, for what comes only after half a minute or a whole one. They begin first, on
 # threads beside the others; who ends the run from outside waits for them too.
 WAITING = {"servers_given_up", "bad_hosts_server_over_silence", "bad_hosts_silent", "edges_dial_gives_up"}
@@ -61,21 +62,23 @@ MAY_HANG = 3
 Test = Callable[[str], "str | None"]
 
 
-def read(path: pathlib.Path, default: bytes) -> bytes:
-    """A file's bytes, or these where there is none."""
-    return path.read_bytes() if path.exists() else default
+def wrong_with(program: str, row: rows.Row) -> str | None:
+    """What is wrong with a run, or None."""
+    with tempfile.TemporaryDirectory() as place:
+        for name, text in row.files.items():
+            path = pathlib.Path(place, name)
+            path.parent.mkdir(parents=True, exist_ok=True)
+            path.write_bytes(text)
+        done = support.run(program, row.words, row.input, place)
+    if done.stderr:
+        return f"wrote to standard error: {done.stderr[:200]!r}"
+    return support.differs(done, row.status, row.output)
 
 
 def run_case(program: str, folder: pathlib.Path) -> str | None:
-    """What is wrong with a case, or None."""
-    words = os.fsdecode(read(folder / "words", b"")).splitlines()
-    with tempfile.TemporaryDirectory() as place:
-        if (folder / "files").is_dir():
-            shutil.copytree(folder / "files", place, dirs_exist_ok=True)
-        done = support.run(program, words, read(folder / "input", b""), place)
-    if done.stderr:
-        return f"wrote to standard error: {done.stderr[:200]!r}"
-    return support.differs(done, int(read(folder / "status", b"0")), read(folder / "output", b""))
+    """What is wrong with the run of a case, or with each run of its table that is wrong, or None."""
+    found = ((row.label, wrong_with(program, row)) for row in rows.runs_of(folder))
+    return "\n    ".join(f"{label}: {wrong}" if label else wrong for label, wrong in found if wrong is not None) or None
 
 
 def topics() -> list[str]:

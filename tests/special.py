@@ -38,6 +38,34 @@ def one_byte_more(program: str) -> str | None:
     return differs(run(program, ["one"], padded_bundle(MAX_INPUT + 1)), 9, b"")
 
 
+def texts_at_their_limits(program: str) -> str | None:
+    """A bundle, a query line, a catalog and a place with as much as each may have, and with one more."""
+    def lists(count: int) -> str:
+        return "".join(f"list L{it}\n7,7\n" for it in range(count)) + "query q\n"
+
+    def line(ones: int) -> str:
+        return f"list A\n1,5\nquery top {'1' * ones} by A using ta\n"
+
+    def sources(count: int) -> str:
+        return catalog({f"L{it}": "p" for it in range(count)})
+
+    def place(letters: int) -> str:
+        return catalog({"A": "p" * letters})
+
+    for text, status, output in ((lists(64), 1, b"refused 1 Syntax 0\n"), (lists(65), 10, b"refused bundle 129\n"),
+                                 (line(4078), 1, b"refused 1 Number 4\n"),
+                                 (line(4079), 1, b"refused 1 LongLine 4096\n")):
+        if wrong := differs(run(program, ["one"], text.encode()), status, output):
+            return f"`one` over {len(text)} bytes: {wrong}"
+    for text, status, output in ((sources(64), 0, b""), (sources(65), 3, b"refused catalog CatalogLine 66\n"),
+                                 (place(255), 0, b""), (place(256), 3, b"refused catalog CatalogLine 2\n")):
+        with tempfile.TemporaryDirectory() as folder:
+            write(folder, "catalog.csv", text)
+            if wrong := differs(run(program, ["run", "catalog.csv"], place=folder), status, output):
+                return f"`run` over a catalog of {len(text)} bytes: {wrong}"
+    return None
+
+
 def read_fault(program: str) -> str | None:
     """Standard input is a folder, which can be opened and not read."""
     folder = os.open("/", os.O_RDONLY)
@@ -205,7 +233,7 @@ def settings_change_nothing(program: str) -> str | None:
 
 def tests() -> Iterator[tuple[str, Callable[[str], str | None]]]:
     """Each test with its name."""
-    for test in (largest_input, one_byte_more, read_fault, full_device, closed_pipe, little_memory, folder_as_catalog,
-                 word_that_is_no_text, place_is_asked, great_lists, last_row_counts, many_sources, workers_are_threads,
-                 settings_change_nothing):
+    for test in (largest_input, one_byte_more, texts_at_their_limits, read_fault, full_device, closed_pipe,
+                 little_memory, folder_as_catalog, word_that_is_no_text, place_is_asked, great_lists, last_row_counts,
+                 many_sources, workers_are_threads, settings_change_nothing):
         yield test.__name__, test
