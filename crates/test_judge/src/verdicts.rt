@@ -3,14 +3,13 @@
 ghost use Rattle.std.specs.Prelude.{◌≡◌};
 ghost use Rattle.monotone_fn.specs.Shape.{list_count};
 
-use super::none_is_wrong;
 use access_log::{Access, Transcript};
 use cert_judge::{JudgeFault, Verdict, counter_table, judge};
 use monotone_fn::Expr;
 use query_text::read;
 use ranked_list::{MemList, is_table};
 use std::alloc::Global;
-use test_support::{random_row, sorted_row};
+use test_support::{random_row, sorted_row, wrong_rows};
 
 /// The expression of a query over so many lists of so many objects, a transcript, and an answer of k objects.
 #[derive(Clone, Copy)]
@@ -35,10 +34,10 @@ type Told = Result<Verdict, JudgeFault>;
 /// The text of a query, and how many lists it names.
 type Asked = (&'static [u8], u8);
 
-/// What is asked, how many objects there are, the accesses, k, the answer, and what is told of it.
-type Row = (Asked, u32, &'static [Access], u32, &'static [u32], Told);
+/// What is asked, how many objects there are, the accesses, k, and the answer.
+type Given = (Asked, u32, &'static [Access], u32, &'static [u32]);
 
-/// How many objects there are, the accesses, and the sums of objects in the table that beats the answer.
+/// How many objects there are, the accesses, and the sums of objects in the table that beats object 2.
 type Countered = (u32, &'static [Access], &'static [(u32, u64)]);
 
 /// What is told of an answer, and the lists of the table that beats it, or none.
@@ -148,9 +147,9 @@ fn has_sums(alloc: Global, lists: &[MemList], sums: &[(u32, u64)]) -> bool {
     }
 }
 
-/// Whether this is told of a row's answer.
-fn is_so(alloc: Global, row: &Row) -> bool {
-    let ((query, lists), count, accesses, k, answer, told) = *row;
+/// What is told of the answer of a row. None without memory.
+fn told_of(alloc: Global, given: &Given) -> Option<Told> {
+    let ((query, lists), count, accesses, k, answer) = *given;
     let question = Question {
         query,
         lists,
@@ -159,22 +158,10 @@ fn is_so(alloc: Global, row: &Row) -> bool {
         k,
         answer,
     };
-    let Some(judged) = verdict_of(alloc, &question) else {
-        return false;
-    };
-    let is_so = judged.told == told;
+    let judged = verdict_of(alloc, &question)?;
+    let told = judged.told;
     drop(judged);
-    is_so
-}
-
-/// The number of the first row of whose answer something else is told.
-fn first_wrong(alloc: Global, rows: &[Row]) -> Option<usize> {
-    for (number, row) in rows.iter().enumerate() {
-        if !is_so(alloc, row) {
-            return Some(number);
-        }
-    }
-    None
+    Some(told)
 }
 
 /// Two lists by sum.
@@ -203,9 +190,17 @@ pub const FIRST: [Access; 4] = [
 const ROWS: [Access; 2] = [sorted_row!(0, 1, 900), sorted_row!(1, 2, 700)];
 
 /// The two of the runs that are beaten.
-static COUNTERED: [Countered; 2] = [
-    (3, &FIRST, &[(2, 1500), (0, 1600), (1, 1400)]),
-    (2, &ROWS, &[(2, 700), (1, 1600)]),
+const COUNTERED: &[(&str, Countered, bool)] = &[
+    (
+        "by an unseen object",
+        (3, &FIRST, &[(2, 1500), (0, 1600), (1, 1400)]),
+        true,
+    ),
+    (
+        "by an object that was seen",
+        (2, &ROWS, &[(2, 700), (1, 1600)]),
+        true,
+    ),
 ];
 
 /// Whether what beats object 2 is a table that gives objects these sums.
@@ -228,16 +223,6 @@ fn is_countered(alloc: Global, row: &Countered) -> bool {
     is_so
 }
 
-/// The number of the first row that is countered otherwise.
-fn first_uncountered(alloc: Global, rows: &[Countered]) -> Option<usize> {
-    for (number, row) in rows.iter().enumerate() {
-        if !is_countered(alloc, row) {
-            return Some(number);
-        }
-    }
-    None
-}
-
 /// Three objects of one grade in the first of two lists.
 const NINES: &[Access] = &[
     sorted_row!(0, 5, 9),
@@ -248,12 +233,12 @@ const NINES: &[Access] = &[
 /// An object with one grade of 9 is beaten by another one.
 macro_rules! beaten {
     ($inside:expr, $outside:expr) => {
-        Ok(Verdict::Beaten {
+        Some(Ok(Verdict::Beaten {
             inside: $inside,
             outside: $outside,
             low: 9,
             high: 1_000_009,
-        })
+        }))
     };
 }
 
@@ -273,130 +258,132 @@ const GREATEST: Asked = (
 );
 
 /// What is told of answers.
-static JUDGED: [Row; 21] = [
-    // The run, and the same without its last accesses: beaten by an unseen object, fixed where there is none, and beaten by an object
-    // that was seen.
-    (SUM, 3, &RUN, 1, &[2], Ok(Verdict::Fixes)),
+const JUDGED: &[(&str, Given, Option<Told>)] = &[
     (
-        SUM,
-        3,
-        &FIRST,
-        1,
-        &[2],
-        Ok(Verdict::Beaten {
+        "a whole run",
+        (SUM, 3, &RUN, 1, &[2]),
+        Some(Ok(Verdict::Fixes)),
+    ),
+    (
+        "its first depth: an unseen object is better",
+        (SUM, 3, &FIRST, 1, &[2]),
+        Some(Ok(Verdict::Beaten {
             inside: 2,
             outside: 0,
             low: 1500,
             high: 1600,
-        }),
+        })),
     ),
-    (SUM, 2, &FIRST, 1, &[2], Ok(Verdict::Fixes)),
     (
-        SUM,
-        2,
-        &ROWS,
-        1,
-        &[2],
-        Ok(Verdict::Beaten {
+        "its first depth, where no object is unseen",
+        (SUM, 2, &FIRST, 1, &[2]),
+        Some(Ok(Verdict::Fixes)),
+    ),
+    (
+        "its first rows: a seen object is better",
+        (SUM, 2, &ROWS, 1, &[2]),
+        Some(Ok(Verdict::Beaten {
             inside: 2,
             outside: 1,
             low: 700,
             high: 1600,
-        }),
-    ),
-    // Of equal lows inside, and of equal highs outside, the object of the smallest id is named.
-    (SUM, 4, NINES, 1, &[5], beaten!(5, 0)),
-    (SUM, 4, NINES, 2, &[5, 4], beaten!(4, 0)),
-    (SUM, 3, NINES, 1, &[5], beaten!(5, 3)),
-    (SUM, 3, NINES, 1, &[3], beaten!(3, 4)),
-    // Each fault, and the first of two.
-    (ONE, 1, TAME, 1, &[9], Ok(Verdict::Fixes)),
-    (
-        ONE,
-        1,
-        &[],
-        1,
-        &[9],
-        Err(JudgeFault::UnseenAnswer { object: 9 }),
+        })),
     ),
     (
-        ONE,
-        1,
-        TAME,
-        1,
-        &[9, 9],
-        Err(JudgeFault::WrongSize { given: 2, k: 1 }),
+        "one of three of a grade, and an unseen object",
+        (SUM, 4, NINES, 1, &[5]),
+        beaten!(5, 0),
     ),
     (
-        ONE,
-        1,
-        TAME,
-        2,
-        &[9, 9],
-        Err(JudgeFault::WrongSize { given: 2, k: 2 }),
+        "two of three of a grade: the smaller is inside",
+        (SUM, 4, NINES, 2, &[5, 4]),
+        beaten!(4, 0),
     ),
     (
-        ONE,
-        2,
-        &[],
-        2,
-        &[7, 7],
-        Err(JudgeFault::WrongSize { given: 2, k: 2 }),
+        "the greatest of three of a grade",
+        (SUM, 3, NINES, 1, &[5]),
+        beaten!(5, 3),
     ),
     (
-        ONE,
-        1,
-        TAME,
-        2,
-        &[9],
-        Err(JudgeFault::WrongSize { given: 1, k: 2 }),
+        "the least of three of a grade",
+        (SUM, 3, NINES, 1, &[3]),
+        beaten!(3, 4),
     ),
     (
-        ONE,
-        1,
-        TAME,
-        2,
-        &[9, 3],
-        Err(JudgeFault::UnseenAnswer { object: 3 }),
+        "one object",
+        (ONE, 1, TAME, 1, &[9]),
+        Some(Ok(Verdict::Fixes)),
     ),
     (
-        ONE,
-        3,
-        TAME,
-        3,
-        &[4, 9, 3],
-        Err(JudgeFault::UnseenAnswer { object: 4 }),
+        "an answer that isn't seen",
+        (ONE, 1, &[], 1, &[9]),
+        Some(Err(JudgeFault::UnseenAnswer { object: 9 })),
     ),
     (
-        ONE,
-        3,
-        WILD,
-        3,
-        &[4, 4, 9],
-        Err(JudgeFault::WildGuess { at: 2 }),
+        "an object twice",
+        (ONE, 1, TAME, 1, &[9, 9]),
+        Some(Err(JudgeFault::WrongSize { given: 2, k: 1 })),
     ),
     (
-        ONE,
-        3,
-        WILD_AT_ONCE,
-        1,
-        &[9],
-        Err(JudgeFault::WildGuess { at: 1 }),
+        "an object twice for k 2",
+        (ONE, 1, TAME, 2, &[9, 9]),
+        Some(Err(JudgeFault::WrongSize { given: 2, k: 2 })),
     ),
-    (ONE, 3, TAME, 0, &[], Ok(Verdict::Fixes)),
-    (ONE, 3, TAME, 1, &[9], Ok(Verdict::Fixes)),
     (
-        GREATEST,
-        2,
-        &[sorted_row!(0, 1, 1_000_000), sorted_row!(1, 2, 1_000_000)],
-        1,
-        &[1],
-        Ok(Verdict::Beaten {
+        "an object twice that isn't seen",
+        (ONE, 2, &[], 2, &[7, 7]),
+        Some(Err(JudgeFault::WrongSize { given: 2, k: 2 })),
+    ),
+    (
+        "too few",
+        (ONE, 1, TAME, 2, &[9]),
+        Some(Err(JudgeFault::WrongSize { given: 1, k: 2 })),
+    ),
+    (
+        "the second isn't seen",
+        (ONE, 1, TAME, 2, &[9, 3]),
+        Some(Err(JudgeFault::UnseenAnswer { object: 3 })),
+    ),
+    (
+        "the first of two that aren't seen",
+        (ONE, 3, TAME, 3, &[4, 9, 3]),
+        Some(Err(JudgeFault::UnseenAnswer { object: 4 })),
+    ),
+    (
+        "a wild guess before all else",
+        (ONE, 3, WILD, 3, &[4, 4, 9]),
+        Some(Err(JudgeFault::WildGuess { at: 2 })),
+    ),
+    (
+        "a wild guess at once",
+        (ONE, 3, WILD_AT_ONCE, 1, &[9]),
+        Some(Err(JudgeFault::WildGuess { at: 1 })),
+    ),
+    (
+        "no object",
+        (ONE, 3, TAME, 0, &[]),
+        Some(Ok(Verdict::Fixes)),
+    ),
+    (
+        "one of three",
+        (ONE, 3, TAME, 1, &[9]),
+        Some(Ok(Verdict::Fixes)),
+    ),
+    (
+        "the greatest aggregates",
+        (
+            GREATEST,
+            2,
+            &[sorted_row!(0, 1, 1_000_000), sorted_row!(1, 2, 1_000_000)],
+            1,
+            &[1],
+        ),
+        Some(Ok(Verdict::Beaten {
             inside: 1,
             outside: 2,
             low: 4_611_686_018_427_000_000,
             high: 9_223_372_036_854_000_000,
-        }),
+        })),
     ),
 ];
 
@@ -404,6 +391,6 @@ static JUDGED: [Row; 21] = [
 /// low there, and each other object its high.
 #[test]
 fn judges_each_row(rt: HostRuntime) {
-    none_is_wrong(&rt, first_wrong(rt.alloc(), &JUDGED));
-    none_is_wrong(&rt, first_uncountered(rt.alloc(), &COUNTERED));
+    assert_eq!(rt; wrong_rows(&rt, rt.alloc(), JUDGED, told_of), 0);
+    assert_eq!(rt; wrong_rows(&rt, rt.alloc(), COUNTERED, is_countered), 0);
 }
