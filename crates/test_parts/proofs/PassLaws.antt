@@ -4,7 +4,7 @@ use Rattle.std.proofs.lemmas.List.Elements.{All-append, All-drop, All-pop, All-p
 use Rattle.atomic_table.specs.Seated.{TableId}
 use Rattle.turn_lock.specs.declared.known.Known.{Known}
 use Rattle.turn_lock.specs.Known.{all_parts, without, split_off, joined}
-use Rattle.test_parts.specs.declared.readers.Reader.{Reader}
+use Rattle.test_parts.specs.declared.journal.Reader.{Reader}
 use Rattle.test_parts.specs.Readers.{IsReady, IsWriter}
 
 -- the writer, from which one part was split off, and the reader that got it

@@ -2,7 +2,7 @@
 use Rattle.std.specs.Prelude.{◌≡◌, ℕ, true, false, None}
 use Rattle.atomic_table.specs.Seated.{TableId}
 use Rattle.turn_lock.specs.declared.known.Known.{Known}
-use Rattle.test_parts.specs.declared.readers.Reader.{Reader}
+use Rattle.test_parts.specs.declared.journal.Reader.{Reader}
 
 -- the pass of a reader of this lock, with one part and no turn
 pub record IsReader (lock : TableId) (pass : TableId × Known ℕ) : Type 0 where

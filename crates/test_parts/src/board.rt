@@ -2,78 +2,105 @@
 
 ghost use Rattle.std.specs.Prelude.{◌≤◌, length};
 
-use super::none_is_wrong;
 use machine_base::{Board, Items, Memory};
 use std::alloc::Global;
+use test_support::wrong_rows;
 
 /// An object with its low and its high.
 type Put = (u32, u64, u64);
 
-/// A board's k, what is put on it, the k-th low then, and the first k.
-type Row = (u32, &'static [Put], Option<u64>, &'static [Put]);
+/// A board's k, what is put on it, and the first k then.
+type Given = (u32, &'static [Put], &'static [Put]);
 
-/// Boards from no object to more than k, of equal ranks, and of objects that are put again.
-const BOARDS: &[Row] = &[
-    // from no object to more than k
-    (3, &[], None, &[]),
-    (3, &[(7, 5, 9)], None, &[(7, 5, 9)]),
-    (3, &[(7, 5, 9), (2, 6, 6)], None, &[(2, 6, 6), (7, 5, 9)]),
+/// Boards, and the k-th low of each.
+const BOARDS: &[(&str, Given, Option<Option<u64>>)] = &[
+    ("no object", (3, &[], &[]), Some(None)),
+    ("one object", (3, &[(7, 5, 9)], &[(7, 5, 9)]), Some(None)),
     (
-        3,
-        &[(7, 5, 9), (2, 6, 6), (4, 1, 9)],
-        Some(1),
-        &[(2, 6, 6), (7, 5, 9), (4, 1, 9)],
+        "fewer than k",
+        (3, &[(7, 5, 9), (2, 6, 6)], &[(2, 6, 6), (7, 5, 9)]),
+        Some(None),
     ),
     (
-        3,
-        &[(7, 5, 9), (2, 6, 6), (4, 1, 9), (9, 3, 3)],
-        Some(3),
-        &[(2, 6, 6), (7, 5, 9), (9, 3, 3)],
-    ),
-    // the first one, and all of them
-    (
-        1,
-        &[(7, 5, 9), (2, 6, 6), (4, 1, 9), (9, 3, 3)],
-        Some(6),
-        &[(2, 6, 6)],
+        "as many as k",
+        (
+            3,
+            &[(7, 5, 9), (2, 6, 6), (4, 1, 9)],
+            &[(2, 6, 6), (7, 5, 9), (4, 1, 9)],
+        ),
+        Some(Some(1)),
     ),
     (
-        1_000_000,
-        &[(7, 5, 9), (2, 6, 6), (4, 1, 9), (9, 3, 3)],
-        None,
-        &[(2, 6, 6), (7, 5, 9), (9, 3, 3), (4, 1, 9)],
-    ),
-    // equal lows, and equal highs too
-    (
-        2,
-        &[(1, 5, 7), (2, 5, 9), (3, 5, 8)],
-        Some(5),
-        &[(2, 5, 9), (3, 5, 8)],
+        "more than k",
+        (
+            3,
+            &[(7, 5, 9), (2, 6, 6), (4, 1, 9), (9, 3, 3)],
+            &[(2, 6, 6), (7, 5, 9), (9, 3, 3)],
+        ),
+        Some(Some(3)),
     ),
     (
-        2,
-        &[(8, 5, 5), (3, 5, 5), (5, 5, 5)],
-        Some(5),
-        &[(3, 5, 5), (5, 5, 5)],
-    ),
-    // an object that is put again: upwards, downwards, and as it was
-    (
-        2,
-        &[(1, 9, 9), (2, 8, 8), (3, 1, 9), (3, 10, 10)],
-        Some(9),
-        &[(3, 10, 10), (1, 9, 9)],
+        "the first one",
+        (
+            1,
+            &[(7, 5, 9), (2, 6, 6), (4, 1, 9), (9, 3, 3)],
+            &[(2, 6, 6)],
+        ),
+        Some(Some(6)),
     ),
     (
-        2,
-        &[(1, 9, 9), (2, 8, 8), (3, 7, 9), (1, 2, 9)],
-        Some(7),
-        &[(2, 8, 8), (3, 7, 9)],
+        "all of them",
+        (
+            1_000_000,
+            &[(7, 5, 9), (2, 6, 6), (4, 1, 9), (9, 3, 3)],
+            &[(2, 6, 6), (7, 5, 9), (9, 3, 3), (4, 1, 9)],
+        ),
+        Some(None),
     ),
     (
-        2,
-        &[(1, 9, 9), (2, 8, 8), (1, 9, 9)],
-        Some(8),
-        &[(1, 9, 9), (2, 8, 8)],
+        "equal lows",
+        (
+            2,
+            &[(1, 5, 7), (2, 5, 9), (3, 5, 8)],
+            &[(2, 5, 9), (3, 5, 8)],
+        ),
+        Some(Some(5)),
+    ),
+    (
+        "equal lows and highs",
+        (
+            2,
+            &[(8, 5, 5), (3, 5, 5), (5, 5, 5)],
+            &[(3, 5, 5), (5, 5, 5)],
+        ),
+        Some(Some(5)),
+    ),
+    (
+        "put again upwards",
+        (
+            2,
+            &[(1, 9, 9), (2, 8, 8), (3, 1, 9), (3, 10, 10)],
+            &[(3, 10, 10), (1, 9, 9)],
+        ),
+        Some(Some(9)),
+    ),
+    (
+        "put again downwards",
+        (
+            2,
+            &[(1, 9, 9), (2, 8, 8), (3, 7, 9), (1, 2, 9)],
+            &[(2, 8, 8), (3, 7, 9)],
+        ),
+        Some(Some(7)),
+    ),
+    (
+        "put again as it was",
+        (
+            2,
+            &[(1, 9, 9), (2, 8, 8), (1, 9, 9)],
+            &[(1, 9, 9), (2, 8, 8)],
+        ),
+        Some(Some(8)),
     ),
 ];
 
@@ -122,32 +149,22 @@ fn are_items(items: &Items, wanted: &[Put]) -> bool {
     true
 }
 
-/// Whether a board is as its row says. Four objects at most have room on it.
-fn is_right(alloc: Global, row: &Row) -> Result<bool, Memory> {
-    let (k, puts, kth, first) = *row;
+/// The k-th low of a board, whose first k are as its row says. Four objects at most have room on it.
+fn kth_of(alloc: Global, given: &Given) -> Option<Option<u64>> {
+    let (k, puts, first) = *given;
     if k == 0 || puts.len() > 4 {
-        return Ok(false);
+        return None;
     }
-    let board = put_all(alloc, k, puts)?;
-    let is_so = board.kth() == kth && are_top(&board, puts, first);
-    let items = board.first()?;
+    let board = put_all(alloc, k, puts).ok()?;
+    let kth = board.kth();
+    let is_so = are_top(&board, puts, first);
+    let items = board.first().ok()?;
     let is_right = is_so && are_items(&items, first);
     drop(items);
-    Ok(is_right)
-}
-
-/// The number of the first row that a board isn't as.
-fn first_wrong(alloc: Global, rows: &[Row]) -> Result<Option<usize>, Memory> {
-    for (number, row) in rows.iter().enumerate() {
-        if !is_right(alloc, row)? {
-            return Ok(Some(number));
-        }
-    }
-    Ok(None)
+    if is_right { Some(kth) } else { None }
 }
 
 #[test]
-fn boards_by_hand(rt: HostRuntime) -> Result<(), Memory> {
-    none_is_wrong(&rt, first_wrong(rt.alloc(), BOARDS)?);
-    Ok(())
+fn boards_by_hand(rt: HostRuntime) {
+    assert_eq!(rt; wrong_rows(&rt, rt.alloc(), BOARDS, kth_of), 0);
 }

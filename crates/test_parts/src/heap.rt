@@ -1,10 +1,8 @@
 //! Heaps row by row.
 
-ghost use Rattle.std.specs.Prelude.{◌≤◌};
-
-use super::none_is_wrong;
 use containers::{IndexedHeap, Memory};
 use std::alloc::Global;
+use test_support::wrong_rows;
 use topk_base::MAX_OBJECTS;
 
 /// A change of one key: the rank that it is given, None where its rank is taken away.
@@ -59,23 +57,26 @@ fn first_wrong_of(heap: &mut IndexedHeap<u32>, rows: &[(Change, Answer)]) -> Opt
     None
 }
 
-/// The same on a heap of this room.
-fn first_wrong(alloc: Global, room: u32, rows: &[(Change, Answer)]) -> Result<Option<usize>, Memory>
-    requires { room ≤ MAX_OBJECTS }
-{
-    let mut heap = IndexedHeap::make(alloc, room)?;
-    let wrong = first_wrong_of(&mut heap, rows);
+/// The rooms of heaps, their changes, and the first change after which one isn't as told.
+const HEAPS: &[(&str, (u32, &[(Change, Answer)]), Option<usize>)] = &[
+    ("five keys", (5, FIVE), None),
+    ("one key", (1, ONE), None),
+    ("no key", (0, &[]), None),
+];
+
+/// The first change after which a heap of a room isn't as told. It is the first one where there is no memory.
+fn first_wrong(alloc: Global, given: &(u32, &[(Change, Answer)])) -> Option<usize> {
+    let Ok(mut heap) = IndexedHeap::make(alloc, given.0.min(MAX_OBJECTS)) else {
+        return Some(0);
+    };
+    let wrong = first_wrong_of(&mut heap, given.1);
     drop(heap);
-    Ok(wrong)
+    wrong
 }
 
 #[test]
-fn changes(rt: HostRuntime) -> Result<(), Memory> {
-    let alloc = rt.alloc();
-    none_is_wrong(&rt, first_wrong(alloc, 5, FIVE)?);
-    none_is_wrong(&rt, first_wrong(alloc, 1, ONE)?);
-    none_is_wrong(&rt, first_wrong(alloc, 0, &[])?);
-    Ok(())
+fn changes(rt: HostRuntime) {
+    assert_eq!(rt; wrong_rows(&rt, rt.alloc(), HEAPS, first_wrong), 0);
 }
 
 /// Gives a heap of two keys a rank, widens it to fewer keys than it has and to five, and gives it a second one: whether it has room for so

@@ -1,4 +1,4 @@
-use turn_lock::Logged;
+use turn_lock::{Logged, Pass};
 
 /// A journal behind a lock.
 #[derive(Drop)]
@@ -21,4 +21,16 @@ impl Logged for Journal {
     fn length(&self) -> u64 {
         self.entries.len() as u64
     }
+}
+
+/// A reader, with what it noticed in its turns.
+#[derive(Drop)]
+pub struct Reader {
+    pub pass: Pass<Journal>,
+    /// How many turns it had.
+    pub turns: u32,
+    /// How many entries the log had at its last turn.
+    pub entries: u64,
+    /// Whether the log was ever shorter than at the turn before.
+    pub fell: bool,
 }

@@ -2,25 +2,13 @@ ghost use Rattle.std.specs.Prelude.{◌≡◌, ◌+◌, ◌<◌, All, vec_len};
 ghost use Rattle.turn_lock.specs.Known.{all_parts};
 ghost use Rattle.test_parts.specs.Readers.{IsReady, IsWriter};
 
-use crate::journal::Journal;
+use crate::journal::{Journal, Reader};
 use crate::turns::{ask, write};
 use std::alloc::{AllocError, Global};
 use std::sync::Wait;
 use std::thread;
 use std::thread::{Threads, join_mut};
 use turn_lock::{Pass, TurnLock};
-
-/// A reader, with what it noticed in its turns.
-#[derive(Drop)]
-pub struct Reader {
-    pub pass: Pass<Journal>,
-    /// How many turns it had.
-    pub turns: u32,
-    /// How many entries the log had at its last turn.
-    pub entries: u64,
-    /// Whether the log was ever shorter than at the turn before.
-    pub fell: bool,
-}
 
 /// Takes so many turns.
 pub fn ask_often<R: Wait>(rt: &R, lock: &TurnLock<Journal>, reader: &mut Reader, turns: u32)

@@ -2,8 +2,8 @@ ghost use Rattle.std.specs.Prelude.{◌≡◌, ◌<◌, length, IfSome, IfOk};
 ghost use Rattle.turn_lock.specs.Known.{all_parts};
 ghost use Rattle.test_parts.specs.Readers.{IsReader, IsWriter};
 
-use crate::journal::Journal;
-use crate::readers::{Reader, join_readers, run_at_once, split_readers};
+use crate::journal::{Journal, Reader};
+use crate::readers::{join_readers, run_at_once, split_readers};
 use crate::turns::{ask, catch_up, write};
 use std::alloc::{AllocError, Global};
 use std::sync::Wait;

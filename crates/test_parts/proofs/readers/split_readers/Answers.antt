@@ -1,6 +1,6 @@
 use Rattle.std.proofs.Common.{◌≡◌, ◌+◌, ◌<◌, ◌∷◌, [], ◌++◌, List, All, false, vec_len, sym, ap, subst, ◌∙◌, arith}
 use Rattle.turn_lock.specs.Known.{all_parts}
-use Rattle.test_parts.specs.declared.readers.Reader.{Reader}
+use Rattle.test_parts.specs.declared.journal.Reader.{Reader}
 use Rattle.test_parts.specs.Readers.{IsReady}
 use Rattle.test_parts.proofs.PassLaws.{split_more}
 use Rattle.test_parts.proofs.readers.split_readers.Goals as goal
