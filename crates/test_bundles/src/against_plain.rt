@@ -1,12 +1,11 @@
 //! What `one` writes of random tables, and what the plain program computes.
 
 use super::bundles::bundle_of;
-use super::no_table_is_wrong;
-use super::outcomes::one_ends;
+use super::drives::one_of;
 use super::plain::expected;
 use command_line::Status;
 use std::alloc::Global;
-use test_support::Numbers;
+use test_support::{Numbers, wrong_rows};
 
 /// Expressions over one, two and three lists.
 const EXPRESSIONS: &[(usize, &str)] = &[
@@ -20,12 +19,22 @@ const EXPRESSIONS: &[(usize, &str)] = &[
     (3, "min(sum(A,B),C)"),
 ];
 
+/// Whether `one` answers a bundle by these bytes.
+fn writes(alloc: Global, input: &str, wanted: &[u8]) -> bool {
+    let Some((status, out)) = one_of(alloc, input.as_bytes(), &[], 4000) else {
+        return false;
+    };
+    let is_so = status == Status::Done && out.taken() == wanted;
+    drop(out);
+    is_so
+}
+
 /// Whether `one` writes of a bundle what the plain program computes.
 fn is_plain(alloc: Global, input: &str, asked: (&str, u32)) -> bool {
     let Some(wanted) = expected(alloc, input, asked) else {
         return false;
     };
-    let is_so = one_ends(alloc, input.as_bytes(), (Status::Done, &wanted));
+    let is_so = writes(alloc, input, wanted.as_bytes());
     drop(wanted);
     is_so
 }
@@ -84,42 +93,39 @@ fn is_plain_by(alloc: Global, numbers: &mut Numbers, by: (usize, &str, &str)) ->
     true
 }
 
-/// The number of the first expression by which something else is written than the plain program computes, by an algorithm.
-fn first_other(alloc: Global, algorithm: &str) -> Option<usize> {
+/// The first expression by which something else is written than the plain program computes, by an algorithm.
+fn first_other(alloc: Global, algorithm: &&str) -> Option<&'static str> {
     let mut numbers = Numbers::from_start(1);
-    for (number, (lists, expression)) in EXPRESSIONS.iter().enumerate() {
-        let by = (*lists, *expression, algorithm);
+    for (lists, expression) in EXPRESSIONS {
+        let by = (*lists, *expression, *algorithm);
         if !is_plain_by(alloc, &mut numbers, by) {
-            return Some(number);
+            return Some(*expression);
         }
     }
     None
 }
 
-/// The numbers of the first of these algorithms by which something else is written, and of the first such expression.
-fn first_wrong(alloc: Global, algorithms: &[&str]) -> Option<(usize, usize)> {
-    for (number, algorithm) in algorithms.iter().enumerate() {
-        if let Some(expression) = first_other(alloc, *algorithm) {
-            return Some((number, expression));
-        }
-    }
-    None
-}
-
-/// Each algorithm: the threshold algorithm, the one without random access, Fagin's, and the combined one at costs whose ratio is less
-/// than 1, 1, between 1 and 2, 2, and more than there are depths.
-const ALGORITHMS: &[&str] = &[
-    "ta",
-    "nra",
-    "fa",
-    "ca",
-    "ca cost 7 2",
-    "ca cost 2 3",
-    "ca cost 1 2",
-    "ca cost 3 100",
+/// Each algorithm, and the expression by which something else is written: there is none.
+const ALGORITHMS: &[(&str, &str, Option<&'static str>)] = &[
+    ("the threshold algorithm", "ta", None),
+    ("without random access", "nra", None),
+    ("Fagin's", "fa", None),
+    ("combined at equal costs", "ca", None),
+    (
+        "combined, the ratio of costs less than 1",
+        "ca cost 7 2",
+        None,
+    ),
+    ("combined, the ratio between 1 and 2", "ca cost 2 3", None),
+    ("combined, the ratio 2", "ca cost 1 2", None),
+    (
+        "combined, the ratio more than there are depths",
+        "ca cost 3 100",
+        None,
+    ),
 ];
 
 #[test]
 fn writes_what_the_plain_program_computes(rt: HostRuntime) {
-    no_table_is_wrong(&rt, first_wrong(rt.alloc(), ALGORITHMS));
+    assert_eq!(rt; wrong_rows(&rt, rt.alloc(), ALGORITHMS, first_other), 0);
 }

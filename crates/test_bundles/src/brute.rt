@@ -2,13 +2,12 @@
 
 use super::aggregates::Aggregate;
 use super::drives::one_of;
-use super::no_table_is_wrong;
 use super::random_tables::{Table, table_of};
 use super::table_answers::{Asked, is_right};
 use command_line::Status;
 use std::alloc::Global;
 use std::str::from_utf8;
-use test_support::Numbers;
+use test_support::{Numbers, wrong_rows};
 
 /// Each aggregate.
 const ASKED: &[Asked] = &[
@@ -31,7 +30,7 @@ const SIZES: &[Size] = &[
 
 /// Whether `one` writes such a certificate of an input.
 fn writes_right(alloc: Global, table: &Table, asked: Asked, input: &str) -> bool {
-    let Some((status, out)) = one_of(alloc, input.as_bytes(), 4_000_000) else {
+    let Some((status, out)) = one_of(alloc, input.as_bytes(), &[], 4_000_000) else {
         return false;
     };
     let is_so = match from_utf8(out.taken()) {
@@ -64,58 +63,81 @@ fn answers_right(
     is_so
 }
 
-/// The number of the first aggregate by which a table is answered otherwise.
+/// The first aggregate by which a table is answered otherwise.
 fn first_wrong_of(
     alloc: Global,
     table: &Table,
     lists: (&str, &str),
     algorithm: &str,
-) -> Option<usize> {
-    for (number, asked) in ASKED.iter().enumerate() {
+) -> Option<&'static str> {
+    for asked in ASKED {
         if !answers_right(alloc, table, *asked, lists, algorithm) {
-            return Some(number);
+            return Some(asked.1.word().0);
         }
     }
     None
 }
 
-/// The same of a table of this size over so many objects. It is none of them where no table is made.
+/// The same of a table of this size over so many objects.
 fn first_wrong_at(
     alloc: Global,
     numbers: &mut Numbers,
     size: &Size,
     count: u32,
     algorithm: &str,
-) -> Option<usize> {
+) -> Option<&'static str> {
     let (lists, step, plain, weighted) = *size;
     let Some(table) = table_of(alloc, numbers, lists, count, step.max(1)) else {
-        return Some(ASKED.len());
+        return Some("no table");
     };
     let wrong = first_wrong_of(alloc, &table, (plain, weighted), algorithm);
     drop(table);
     wrong
 }
 
-/// How many lists the first table has that is answered otherwise, and the number of the first such aggregate.
-fn first_wrong(alloc: Global, count: u32, algorithm: &str) -> Option<(usize, usize)> {
+/// How many lists the first table has that is answered otherwise, and the first such aggregate.
+type Wrong = Option<(usize, &'static str)>;
+
+/// What is answered otherwise over so many objects by an algorithm.
+fn first_wrong(alloc: Global, given: &(u32, &str)) -> Wrong {
+    let (count, algorithm) = *given;
     let mut numbers = Numbers::from_start(1);
     for size in SIZES {
-        if let Some(number) = first_wrong_at(alloc, &mut numbers, size, count, algorithm) {
-            return Some((size.0, number));
+        if let Some(word) = first_wrong_at(alloc, &mut numbers, size, count, algorithm) {
+            return Some((size.0, word));
         }
     }
     None
 }
 
-/// By each algorithm whose answers are the best, which those within the factor 1 are; the combined one with a random phase at each third depth,
-/// at each, and at each fortieth.
+/// Each algorithm whose answers are the best, which those within the factor 1 are, over so many objects.
+const ALGORITHMS: &[(&str, (u32, &str), Wrong)] = &[
+    ("the threshold algorithm", (2_000, "ta"), None),
+    ("without random access", (2_000, "nra"), None),
+    (
+        "over lists of which some are read in order",
+        (2_000, "taz"),
+        None,
+    ),
+    ("within the factor 1", (2_000, "theta 1/1"), None),
+    (
+        "combined, a random phase at each third depth",
+        (500, "ca cost 2 7"),
+        None,
+    ),
+    (
+        "combined, a random phase at each depth",
+        (500, "ca cost 10 3"),
+        None,
+    ),
+    (
+        "combined, a random phase at each fortieth depth",
+        (500, "ca cost 1 40"),
+        None,
+    ),
+];
+
 #[test]
 fn answers_as_all_aggregates_say(rt: HostRuntime) {
-    no_table_is_wrong(&rt, first_wrong(rt.alloc(), 2_000, "ta"));
-    no_table_is_wrong(&rt, first_wrong(rt.alloc(), 2_000, "nra"));
-    no_table_is_wrong(&rt, first_wrong(rt.alloc(), 2_000, "taz"));
-    no_table_is_wrong(&rt, first_wrong(rt.alloc(), 2_000, "theta 1/1"));
-    no_table_is_wrong(&rt, first_wrong(rt.alloc(), 500, "ca cost 2 7"));
-    no_table_is_wrong(&rt, first_wrong(rt.alloc(), 500, "ca cost 10 3"));
-    no_table_is_wrong(&rt, first_wrong(rt.alloc(), 500, "ca cost 1 40"));
+    assert_eq!(rt; wrong_rows(&rt, rt.alloc(), ALGORITHMS, first_wrong), 0);
 }

@@ -1,6 +1,6 @@
-//! How the commands end on an input in memory.
+//! How `one` ends on an input in memory.
 
-use bundle_calls::{compare, judge, one};
+use bundle_calls::one;
 use command_line::Status;
 use std::alloc::Global;
 use tk_io::{MemIntake, MemSink, Sink};
@@ -21,28 +21,17 @@ pub fn one_into<K: Sink>(
     }
 }
 
-/// How `judge` ends on this input, into a stream. None where there is no memory for the input.
-pub fn judge_into<K: Sink>(alloc: Global, input: &[u8], out: &mut K) -> Option<Status> {
-    match MemIntake::make(alloc, input, PIECE, &[]) {
-        Ok(mut input) => Some(judge(alloc, &mut input, out)),
-        Err(_) => None,
-    }
-}
-
-/// How `compare` ends on this input, into a stream. None where there is no memory for the input.
-pub fn compare_into<K: Sink>(alloc: Global, input: &[u8], out: &mut K) -> Option<Status> {
-    match MemIntake::make(alloc, input, PIECE, &[]) {
-        Ok(mut input) => Some(compare(alloc, &mut input, out)),
-        Err(_) => None,
-    }
-}
-
-/// How `one` ends on this input, and what it writes. There is room for so many bytes. None where there is no memory.
-pub fn one_of(alloc: Global, input: &[u8], room: u32) -> Option<(Status, MemSink)> {
+/// How `one` ends on this input, of which these calls fail, and what it writes. There is room for so many bytes. None where there is no memory.
+pub fn one_of(
+    alloc: Global,
+    input: &[u8],
+    failing: &[u64],
+    room: u32,
+) -> Option<(Status, MemSink)> {
     let Ok(mut out) = MemSink::make(alloc, room, &[]) else {
         return None;
     };
-    match one_into(alloc, input, &[], &mut out) {
+    match one_into(alloc, input, failing, &mut out) {
         Some(status) => Some((status, out)),
         None => {
             drop(out);

@@ -1,11 +1,10 @@
-//! Each fault of the streams in turn, on the first example.
+//! Each fault of the streams in turn, on the first example and on a table that is made.
 
-use super::drives::one_into;
-use super::none_is_wrong;
-use super::outcomes::{Streams, one_ends_over};
+use super::drives::{one_into, one_of};
+use bundle_calls::make;
 use command_line::Status;
 use std::alloc::Global;
-use test_support::FIRST_TEXT;
+use test_support::{FIRST_TEXT, wrong_rows};
 use tk_io::{Failed, MemSink, Sink};
 
 /// The bundle of the first example.
@@ -15,43 +14,68 @@ const BUNDLE: &[u8] =
 /// How many bytes the certificate has.
 const LENGTH: usize = 186;
 
-/// Whether `one` ends so where these calls of the input fail and there is room for so many bytes, and
-/// writes the first bytes of the certificate, so many.
-fn ends_so(alloc: Global, failing: &[u64], room: u32, expected: (Status, usize)) -> bool {
-    let Some(front) = FIRST_TEXT.as_bytes().get(..expected.1) else {
-        return false;
-    };
-    let streams = Streams {
-        input: BUNDLE,
-        failing_reads: failing,
-        failing_writes: &[],
-        room,
-    };
-    one_ends_over(alloc, &streams, (expected.0, front))
+/// How a command ended, and how many bytes it wrote.
+type Ends = Option<(Status, usize)>;
+
+/// The call of the input that fails, if one does, and for how many bytes there is room; and how `one` ends.
+const FAULTS: &[(&str, (&[u64], u32), Ends)] = &[
+    (
+        "the first read fails",
+        (&[1], 200),
+        Some((Status::ReadFault, 0)),
+    ),
+    (
+        "the second read fails",
+        (&[2], 200),
+        Some((Status::ReadFault, 0)),
+    ),
+    (
+        "the read at the end fails",
+        (&[3], 200),
+        Some((Status::ReadFault, 0)),
+    ),
+    ("there is no room", (&[], 0), Some((Status::WriteFault, 0))),
+    (
+        "there is room for one byte",
+        (&[], 1),
+        Some((Status::WriteFault, 1)),
+    ),
+    (
+        "for a byte less than a line",
+        (&[], 13),
+        Some((Status::WriteFault, 13)),
+    ),
+    ("for a line", (&[], 14), Some((Status::WriteFault, 14))),
+    (
+        "for a byte less than all",
+        (&[], 185),
+        Some((Status::WriteFault, 185)),
+    ),
+    ("for all", (&[], 186), Some((Status::Done, 186))),
+];
+
+/// How `one` ends, which writes a front of the certificate. None where it writes something else.
+fn ends(alloc: Global, given: &(&[u64], u32)) -> Ends {
+    let (status, out) = one_of(alloc, BUNDLE, given.0, given.1)?;
+    let written = out.taken().len();
+    let is_front = FIRST_TEXT.as_bytes().starts_with(out.taken());
+    drop(out);
+    if is_front {
+        Some((status, written))
+    } else {
+        None
+    }
 }
 
-/// The first call of the input that may fail without a fault of reading, or after which something is written.
-fn first_unread(alloc: Global) -> Option<usize> {
-    for call in 1..4 {
-        if !ends_so(alloc, &[call as u64], 200, (Status::ReadFault, 0)) {
-            return Some(call);
-        }
-    }
-    None
-}
-
-/// Rooms that are less than the certificate.
-const ROOMS: &[u32] = &[0, 1, 13, 14, 185];
-
-/// The number of the first room that isn't filled, or doesn't end in a fault of writing.
-fn first_unfilled(alloc: Global, rooms: &[u32]) -> Option<usize> {
-    for (number, room) in rooms.iter().enumerate() {
-        let expected = (Status::WriteFault, *room as usize);
-        if !ends_so(alloc, &[], *room, expected) {
-            return Some(number);
-        }
-    }
-    None
+/// How `make` ends where its first write fails.
+fn made_into_nothing(alloc: Global) -> Ends {
+    let Ok(mut out) = MemSink::make(alloc, 200, &[1]) else {
+        return None;
+    };
+    let status = make(alloc, 7, 4, 2, &mut out);
+    let written = out.taken().len();
+    drop(out);
+    Some((status, written))
 }
 
 /// A sink that takes one byte in each call.
@@ -108,7 +132,10 @@ fn first_behind(alloc: Global) -> Option<usize> {
 /// Where nothing is read, where the room ends, and at each failing write.
 #[test]
 fn ends_at_each_fault(rt: HostRuntime) {
-    none_is_wrong(&rt, first_unread(rt.alloc()));
-    none_is_wrong(&rt, first_unfilled(rt.alloc(), ROOMS));
-    none_is_wrong(&rt, first_behind(rt.alloc()));
+    assert_eq!(rt; wrong_rows(&rt, rt.alloc(), FAULTS, ends), 0);
+    assert_eq!(rt; first_behind(rt.alloc()), None);
+    assert_eq!(rt;
+        made_into_nothing(rt.alloc()),
+        Some((Status::WriteFault, 0))
+    );
 }

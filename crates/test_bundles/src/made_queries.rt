@@ -1,67 +1,73 @@
 //! Made queries.
 
-use super::none_is_wrong;
 use made_inputs::made_query;
 use query_text::print;
 use std::alloc::Global;
+use test_support::wrong_texts;
 
-/// A query's number, the objects and lists that it is made over, and its text.
-type Row = (u32, u32, u8, &'static str);
+/// A query's number, and the objects and lists that it is made over.
+type Made = (u32, u32, u8);
 
-static ROWS: [Row; 9] = [
-    (0, 100, 3, "top 1 by min(l1,l2,l3) using ta cost 1 1"),
-    (1, 100, 3, "top 2 by max(l1,l2,l3) using nra cost 1 2"),
-    (2, 100, 3, "top 3 by sum(l1,l2,l3) using ca cost 1 3"),
-    (3, 100, 3, "top 4 by median(l1,l2,l3) using ta cost 1 4"),
+const ROWS: &[(&str, Made, &str)] = &[
     (
-        4,
-        100,
-        3,
+        "the first query",
+        (0, 100, 3),
+        "top 1 by min(l1,l2,l3) using ta cost 1 1",
+    ),
+    (
+        "the second",
+        (1, 100, 3),
+        "top 2 by max(l1,l2,l3) using nra cost 1 2",
+    ),
+    (
+        "the third",
+        (2, 100, 3),
+        "top 3 by sum(l1,l2,l3) using ca cost 1 3",
+    ),
+    (
+        "the fourth",
+        (3, 100, 3),
+        "top 4 by median(l1,l2,l3) using ta cost 1 4",
+    ),
+    (
+        "the fifth",
+        (4, 100, 3),
         "top 5 by wsum(1*l1,2*l2,3*l3) using nra cost 1 1",
     ),
     (
-        9,
-        100,
-        3,
+        "the tenth",
+        (9, 100, 3),
         "top 10 by wsum(1*l1,2*l2,3*l3) using ta cost 1 2",
     ),
-    (10, 100, 3, "top 1 by min(l1,l2,l3) using nra cost 1 3"),
-    (4, 1, 1, "top 1 by wsum(1*l1) using nra cost 1 1"),
     (
-        63,
-        2,
-        8,
+        "the eleventh",
+        (10, 100, 3),
+        "top 1 by min(l1,l2,l3) using nra cost 1 3",
+    ),
+    (
+        "the fifth over one object",
+        (4, 1, 1),
+        "top 1 by wsum(1*l1) using nra cost 1 1",
+    ),
+    (
+        "the last of 64 over eight lists",
+        (63, 2, 8),
         "top 2 by median(l1,l2,l3,l4,l5,l6,l7,l8) using ta cost 1 4",
     ),
 ];
 
-/// Whether the query of a row is made with its text.
-fn is_made(alloc: Global, row: &Row) -> bool {
-    let (number, count, lists, text) = *row;
+/// The text of the query of a row.
+fn text_of(alloc: Global, made: &Made) -> Option<Vec<u8>> {
+    let (number, count, lists) = *made;
     let Ok(query) = made_query(alloc, number, count.max(1), lists.max(1).min(8)) else {
-        return false;
+        return None;
     };
-    let printed = print(alloc, &query);
+    let text = print(alloc, &query);
     query.let_go();
-    let Ok(printed) = printed else {
-        return false;
-    };
-    let is_so = printed.as_slice() == text.as_bytes();
-    drop(printed);
-    is_so
-}
-
-/// The number of the first row whose query is made otherwise.
-fn first_wrong(alloc: Global, rows: &[Row]) -> Option<usize> {
-    for (number, row) in rows.iter().enumerate() {
-        if !is_made(alloc, row) {
-            return Some(number);
-        }
-    }
-    None
+    text.ok()
 }
 
 #[test]
 fn makes_queries(rt: HostRuntime) {
-    none_is_wrong(&rt, first_wrong(rt.alloc(), &ROWS));
+    assert_eq!(rt; wrong_texts(&rt, rt.alloc(), ROWS, text_of), 0);
 }
