@@ -1,12 +1,12 @@
 //! Answers that are written.
 
-use super::{holds, let_go, none_is_wrong};
+use super::{holds, let_go};
 use access_log::{Access, Item, Items, Transcript};
 use cert_text::{Outcome, write_outcome};
 use machine_base::Answer;
 use query_text::{Query, read};
 use std::alloc::Global;
-use test_support::{Counting, FIRST_ACCESSES, FIRST_ITEM, FIRST_QUERY, FIRST_TEXT, sorted};
+use test_support::{FIRST_ACCESSES, FIRST_ITEM, FIRST_QUERY, FIRST_TEXT, Counting, sorted, wrong_texts};
 use tk_io::{MemSink, Sink};
 
 /// A query without costs, how many objects it is asked over, the one object of its answer, the accesses that it made, and the
@@ -92,120 +92,48 @@ fn writes_the_first_example(rt: HostRuntime) {
     holds(&rt, whole && fronts);
 }
 
-/// The versions of both lists of the first example, the lines of these, and how many bytes its text has then.
-type Versioned = (&'static [u64], &'static str, u32);
-
-/// Version 0 has no line, and each other version has one behind the count.
-const VERSIONED: &[Versioned] = &[
-    (&[7, 0], "version A 7\n", 198),
-    (&[0, 7], "version B 7\n", 198),
+/// The versions of both lists of the first example, and its text up to its count then: version 0 has no line.
+const VERSIONED: &[(&str, &'static [u64], &str)] = &[
     (
+        "of the first list",
+        &[7, 0],
+        "certificate 1\nquery top 1 by sum(A,B) using ta\ncount 3\nversion A 7\n",
+    ),
+    (
+        "of the second list",
+        &[0, 7],
+        "certificate 1\nquery top 1 by sum(A,B) using ta\ncount 3\nversion B 7\n",
+    ),
+    (
+        "of both",
         &[1, u64::MAX],
-        "version A 1\nversion B 18446744073709551615\n",
-        229,
+        "certificate 1\nquery top 1 by sum(A,B) using ta\ncount 3\nversion A 1\nversion B 18446744073709551615\n",
     ),
 ];
 
-/// Whether the first example is written so over lists of these versions.
-fn is_versioned_so(alloc: Global, row: &Versioned) -> bool {
-    let (versions, lines, len) = *row;
-    let Ok(mut out) = MemSink::make(alloc, len, &[]) else {
-        return false;
+/// What stands behind the count of the first example.
+const BEHIND_COUNT: usize = 55;
+
+/// The text of the first example over lists of these versions, up to its answer. None where it doesn't go on as without versions.
+fn text_with(alloc: Global, versions: &&'static [u64]) -> Option<Vec<u8>> {
+    let Ok(mut out) = MemSink::make(alloc, 400, &[]) else {
+        return None;
     };
-    let example = (
-        FIRST_QUERY,
-        3,
-        FIRST_ITEM,
-        FIRST_ACCESSES.as_slice(),
-        versions,
-    );
+    let accesses = FIRST_ACCESSES.as_slice();
+    let example = (FIRST_QUERY, 3, FIRST_ITEM, accesses, *versions);
     let is_ok = is_written(alloc, &example, &mut out) == Some(true);
-    let is_so = is_ok && is_first_with(out.taken(), lines, len as usize);
+    let rest = FIRST_TEXT.as_bytes().get(BEHIND_COUNT..).unwrap_or(b"");
+    let text = match out.taken().strip_suffix(rest) {
+        Some(front) if is_ok => front.to_vec(alloc).ok(),
+        _ => None,
+    };
     drop(out);
-    is_so
-}
-
-/// Whether bytes are so many, and those of the first example's text with these lines behind its count.
-fn is_first_with(bytes: &[u8], lines: &str, len: usize) -> bool {
-    let head = FIRST_TEXT.as_bytes().get(..55).unwrap_or(b"");
-    let rest = FIRST_TEXT.as_bytes().get(55..).unwrap_or(b"");
-    let lines = lines.as_bytes();
-    let end = lines.len().saturating_add(55);
-    bytes.len() == len
-        && bytes.get(..55) == Some(head)
-        && bytes.get(55..end) == Some(lines)
-        && bytes.get(end..) == Some(rest)
-}
-
-/// The number of the first row that is written otherwise.
-fn first_wrong(alloc: Global, rows: &[Versioned]) -> Option<usize> {
-    for (number, row) in rows.iter().enumerate() {
-        if !is_versioned_so(alloc, row) {
-            return Some(number);
-        }
-    }
-    None
+    text
 }
 
 #[test]
 fn writes_the_versions_of_lists(rt: HostRuntime) {
-    none_is_wrong(&rt, first_wrong(rt.alloc(), VERSIONED));
-}
-
-/// A query, how many of the first example's accesses it made, and the text of its answer.
-type Guaranteed = (&'static [u8], usize, &'static str);
-
-/// At depth 1 the threshold is 1600, at depth 2 it is 1400.
-const GUARANTEED: &[Guaranteed] = &[
-    (
-        b"top 1 by sum(A,B) using theta 8/7",
-        4,
-        "certificate 1\nquery top 1 by sum(A,B) using theta 8/7\ncount 3\nanswer 2 1500 1500\nguarantee 8 7\nstop depth 1 sorted 2 random 2 cost 4\ns A 1 900\ns B 2 700\nr B 1 500\nr A 2 800\nend\n",
-    ),
-    (
-        b"top 1 by sum(A,B) using early 1",
-        4,
-        "certificate 1\nquery top 1 by sum(A,B) using early 1\ncount 3\nanswer 2 1500 1500\nguarantee 1600 1500\nstop depth 1 sorted 2 random 2 cost 4\ns A 1 900\ns B 2 700\nr B 1 500\nr A 2 800\nend\n",
-    ),
-    (
-        b"top 1 by sum(A,B) using early 5",
-        7,
-        "certificate 1\nquery top 1 by sum(A,B) using early 5\ncount 3\nanswer 2 1500 1500\nguarantee 1 1\nstop depth 2 sorted 4 random 3 cost 7\ns A 1 900\ns B 2 700\nr B 1 500\nr A 2 800\ns A 2 800\ns B 3 600\nr A 3 100\nend\n",
-    ),
-    (
-        b"top 1 by sum(A,B) using taz",
-        7,
-        "certificate 1\nquery top 1 by sum(A,B) using taz\ncount 3\nanswer 2 1500 1500\nstop depth 2 sorted 4 random 3 cost 7\ns A 1 900\ns B 2 700\nr B 1 500\nr A 2 800\ns A 2 800\ns B 3 600\nr A 3 100\nend\n",
-    ),
-];
-
-/// Whether the first example is written so for a query that made so many of its accesses.
-fn is_guaranteed_so(alloc: Global, row: &Guaranteed) -> bool {
-    let (query, made, text) = *row;
-    let Ok(mut out) = MemSink::make(alloc, 400, &[]) else {
-        return false;
-    };
-    let accesses = FIRST_ACCESSES.get(..made).unwrap_or(&[]);
-    let example = (query, 3, FIRST_ITEM, accesses, [0, 0].as_slice());
-    let is_ok = is_written(alloc, &example, &mut out) == Some(true);
-    let is_so = is_ok && out.taken() == text.as_bytes();
-    drop(out);
-    is_so
-}
-
-/// The number of the first row that is written otherwise.
-fn first_wrong_guarantee(alloc: Global, rows: &[Guaranteed]) -> Option<usize> {
-    for (number, row) in rows.iter().enumerate() {
-        if !is_guaranteed_so(alloc, row) {
-            return Some(number);
-        }
-    }
-    None
-}
-
-#[test]
-fn writes_what_is_guaranteed(rt: HostRuntime) {
-    none_is_wrong(&rt, first_wrong_guarantee(rt.alloc(), GUARANTEED));
+    assert_eq!(rt; wrong_texts(&rt, rt.alloc(), VERSIONED, text_with), 0);
 }
 
 /// Adds 3,000 tied objects, as far as there is memory, and tells whether it added all.

@@ -1,50 +1,8 @@
 //! What a query holds.
 
-use super::{holds, none_is_wrong};
+use super::holds;
 use query_text::{Algorithm, Costs, Names, Query, read};
 use std::alloc::Global;
-
-/// Whether the query of a line asks for this algorithm.
-fn is_asked_by(alloc: Global, line: &[u8], algorithm: Algorithm) -> bool {
-    let Ok(query) = read(alloc, line) else {
-        return false;
-    };
-    let is_so = query.algorithm == algorithm;
-    query.let_go();
-    is_so
-}
-
-/// Lines, and the algorithm of each.
-const ALGORITHMS: &[(&[u8], Algorithm)] = &[
-    (b"top 1 by A using ta", Algorithm::Ta),
-    (b"top 1 by A using nra", Algorithm::Nra),
-    (b"top 1 by A using ca", Algorithm::Ca),
-    (b"top 1 by A using fa", Algorithm::Fa),
-    (b"top 1 by A using taz", Algorithm::Taz),
-    (
-        b"top 1 by A using theta 8/7",
-        Algorithm::Theta { p: 8, q: 7 },
-    ),
-    (
-        b"top 1 by A using theta 1000000/1 cost 3 4 room 5",
-        Algorithm::Theta { p: 1_000_000, q: 1 },
-    ),
-    (b"top 1 by A using early 5", Algorithm::Early { depth: 5 }),
-    (
-        b"top 1 by A using early 1000000 room 6",
-        Algorithm::Early { depth: 1_000_000 },
-    ),
-];
-
-/// The number of the first line whose query asks for another algorithm.
-fn first_other(alloc: Global, rows: &[(&[u8], Algorithm)]) -> Option<usize> {
-    for (number, (line, algorithm)) in rows.iter().enumerate() {
-        if !is_asked_by(alloc, line, *algorithm) {
-            return Some(number);
-        }
-    }
-    None
-}
 
 /// A line with all parts.
 const LINE: &[u8] = b"top 12 by sum(zeta,A,zeta) using ta cost 7 80 room 900";
@@ -89,6 +47,5 @@ fn is_read(alloc: Global) -> bool {
 
 #[test]
 fn a_query_has_its_parts(rt: HostRuntime) {
-    none_is_wrong(&rt, first_other(rt.alloc(), ALGORITHMS));
     holds(&rt, is_read(rt.alloc()));
 }
