@@ -272,6 +272,7 @@ def command_evidence(program: str) -> str | None:
         ("what is explained", lines[0], "The best 2 of 4 objects by the sum of price and rating:"),
         ("its head", lines[1].split(), ["place", "key", "score", "price", "rating"]),
         ("its best", lines[2].split()[:2], ["1", "Krone"]),
+        ("its values", re.findall(r"(\S+) \([0-9]+\)", lines[2]), ["80", "4.1"]),
     ])  # fmt: skip
 
 

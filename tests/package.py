@@ -887,6 +887,7 @@ def package_faults_of_folders(program: str) -> str | None:
                 (TableError, "no list file", lambda: catalog(head + "a,a.csv,yes\n", "1,1000001\n").rows("a")),
                 (TableError, "no list file", lambda: catalog(head + "a,a.csv,yes\n", "1,5,6,7\n").rows("a")),
                 (TableError, "no file of keys", lambda: catalog(head, keys="object,key\nx,y\n")),
+                (TableError, "record 2 has 3 fields", lambda: catalog(head, keys="object,key\n1,a,b\n")),
             ]
         )
         answer = catalog(head + "a,a.csv,no\n").top(1, ["a"], core=Program(program))

@@ -1,6 +1,6 @@
 "use strict";
 
-/** The names of objects, from a file of keys: CSV with the header `object,key`, a record for each object. */
+/** The names of objects, from a file of keys: CSV whose header begins with `object,key`, a record for each object. */
 const TopkKeys = (() => {
   const MAX_OBJECT = 4_294_967_295;
 
@@ -62,6 +62,7 @@ const TopkKeys = (() => {
       this.records = new Records();
       this.names = new Map();
       this.count = 0;
+      this.fields = 2;
       this.wrong = null;
     }
 
@@ -73,8 +74,10 @@ const TopkKeys = (() => {
       this.count += 1;
       if (this.wrong !== null) return;
       const [object, key] = record;
-      if (this.count === 1) this.check(record.length === 2 && object === "object" && key === "key", "isn't the header `object,key`");
-      else if (this.check(record.length === 2 && /^[0-9]{1,10}$/.test(object) && Number(object) <= MAX_OBJECT, "isn't an object and its key")) {
+      if (this.count === 1) {
+        this.check(object === "object" && key === "key", "isn't the header `object,key`");
+        this.fields = record.length;
+      } else if (this.check(record.length === this.fields && /^[0-9]{1,10}$/.test(object) && Number(object) <= MAX_OBJECT, "isn't an object and its key")) {
         if (this.check(!this.names.has(Number(object)), `names object ${object} anew`)) this.names.set(Number(object), key);
       }
     }

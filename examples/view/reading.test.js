@@ -66,6 +66,7 @@ test("keys give objects their names, also those in quotes", () => {
     assert.equal(wrong, null);
     assert.deepEqual([...names], [[1, "Astoria"], [2, 'Bristol, "old"\nhouse'], [4_294_967_295, ""], [3, "last"]]);
   }
+  assert.deepEqual([...inSlices(new KeyReader(), "object,key,price\n1,Astoria,90\n", 3).names], [[1, "Astoria"]]);
 });
 
 test("what is no file of keys is told by its first wrong record", () => {

@@ -3,7 +3,7 @@
 
     FOLDER/catalog.csv       name,place,random and a line for each list
     FOLDER/lists/NAME.csv    object,grade and a line for each row, from the top down
-    FOLDER/keys.csv          object,key and a line for each row of the table
+    FOLDER/keys.csv          object,key,NAME,.. and a line for each row of the table: its key, and its own values
 
 Places are relative to the folder, so the program runs in it.
 """
@@ -15,8 +15,8 @@ import dataclasses
 import io
 import os
 import pathlib
-from collections.abc import Callable, Iterable, Mapping
-from typing import Any
+from collections.abc import Callable, Iterable, Mapping, Sequence
+from typing import Any, NamedTuple
 
 from topk.answers import NamedAnswer, named_answer
 from topk.certificates import Answer, Certificate
@@ -28,7 +28,7 @@ from topk.limits import MAX_CATALOG, MAX_GRADE, MAX_ROWS, NAME
 from topk.program import Program, find_program
 from topk.questions import Question, question
 
-__all__ = ["CATALOG", "Catalog", "Entry", "KEYS", "read_keys", "write_keys", "write_lists"]
+__all__ = ["CATALOG", "Catalog", "Entry", "KEYS", "KeyFile", "read_keys", "write_keys", "write_lists"]
 
 CATALOG, KEYS, LISTS = "catalog.csv", "keys.csv", "lists"
 
@@ -51,6 +51,14 @@ class Entry:
         return self.place.startswith("http://")
 
 
+class KeyFile(NamedTuple):
+    """What a file of keys has for the numbers of objects, as texts."""
+
+    keys: dict[int, str] = {}
+    values: dict[str, dict[int, str]] = {}
+    """The table's own values, by the names of lists."""
+
+
 class Catalog:
     """The lists of a catalog, with the keys that stand beside it."""
 
@@ -71,7 +79,7 @@ class Catalog:
         place = pathlib.Path(path)
         place = place / CATALOG if place.is_dir() else place
         keys = place.parent / KEYS
-        return cls(place, _entries(place), read_keys(keys) if keys.exists() else {})
+        return cls(place, _entries(place), read_keys(keys).keys if keys.exists() else {})
 
     def __repr__(self) -> str:
         return f"Catalog({os.fspath(self.path)!r}), with the lists {', '.join(self.entries)}"
@@ -165,23 +173,24 @@ def write_lists(
     folder: str | os.PathLike[str],
     objects: Iterable[int],
     keys: Iterable[Any],
-    lists: Mapping[str, tuple[array.array[int], bool]],
+    lists: Mapping[str, tuple[array.array[int], bool, Sequence[Any]]],
     progress: Callable[[str], None] = lambda file: None,
 ) -> Catalog:
-    """Writes lists, each as its rows and whether it gives grades, with a catalog and the keys, and gives the catalog.
+    """Writes lists, each as its rows, whether it gives grades, and the values that the grades stand for, with a catalog
+    and the keys, and gives the catalog.
 
     A file of the same name is replaced whole. `progress` is called with the name of each file before it is written.
     """
     place = pathlib.Path(folder)
     (place / LISTS).mkdir(parents=True, exist_ok=True)
-    entries = [Entry(name, f"{LISTS}/{name}.csv", random, True) for name, (_, random) in lists.items()]
+    entries = [Entry(name, f"{LISTS}/{name}.csv", random, True) for name, (_, random, _) in lists.items()]
     for entry in entries:
         rows = lists[entry.name][0]
         progress(entry.place)
         _replace(place / entry.place, "object,grade\n" + "%d,%d\n" * (len(rows) // 2) % tuple(rows))
     made = dict(zip(objects, keys))
     progress(KEYS)
-    write_keys(place / KEYS, made, made.values())
+    write_keys(place / KEYS, made, made.values(), {name: values for name, (_, _, values) in lists.items()})
     progress(CATALOG)
     _replace(
         place / CATALOG,
@@ -190,9 +199,11 @@ def write_lists(
     return Catalog(place / CATALOG, entries, made)
 
 
-def write_keys(path: str | os.PathLike[str], objects: Iterable[int], keys: Iterable[Any]) -> None:
-    """Writes a file of keys: which number stands for which key."""
-    _replace(pathlib.Path(path), _csv([("object", "key"), *zip(objects, keys)]))
+def write_keys(
+    path: str | os.PathLike[str], objects: Iterable[int], keys: Iterable[Any], values: Mapping[str, Sequence[Any]]
+) -> None:
+    """Writes a file of keys: which number stands for which key, and the values of the lists by their names."""
+    _replace(pathlib.Path(path), _csv([("object", "key", *values), *zip(objects, keys, *values.values())]))
 
 
 def _replace(path: pathlib.Path, text: str) -> None:
@@ -212,18 +223,18 @@ def _csv(records: Iterable[Iterable[Any]]) -> str:
 
 
 def _records(path: pathlib.Path, header: tuple[str, ...]) -> list[list[str]]:
-    """The records of a CSV file after its header."""
+    """The records of a CSV file, of which the first begins with this header."""
     with open(path, newline="", encoding="utf-8") as file:
         records = [record for record in csv.reader(file) if record]
     if not records or tuple(records[0][: len(header)]) != header:
         raise TableError(f"{path} has to begin with the line {','.join(header)}")
-    return records[1:]
+    return records
 
 
 def _entries(path: pathlib.Path) -> list[Entry]:
     """The lines of a catalog."""
     entries: list[Entry] = []
-    for number, record in enumerate(_records(path, ("name", "place", "random")), 2):
+    for number, record in enumerate(_records(path, ("name", "place", "random"))[1:], 2):
         if (
             len(record) not in (3, 4)
             or not NAME.fullmatch(record[0])
@@ -238,12 +249,18 @@ def _entries(path: pathlib.Path) -> list[Entry]:
     return entries
 
 
-def read_keys(path: pathlib.Path) -> dict[int, str]:
-    """The keys of a file of keys, by their objects."""
+def read_keys(path: pathlib.Path) -> KeyFile:
+    """Reads a file of keys."""
+    (_, *names), *records = _records(path, ("object", "key"))
+    for number, record in enumerate(records, 2):
+        if len(record) != len(names) + 1:
+            raise TableError(f"{path} is no file of keys: record {number} has {len(record)} fields")
     try:
-        return {int(item): key for item, key, *_ in _records(path, ("object", "key"))}
+        items = [int(record[0]) for record in records]
     except ValueError as fault:
         raise TableError(f"{path} is no file of keys: {fault}") from None
+    keys, *values = (dict(zip(items, (record[place] for record in records))) for place in range(1, len(names) + 1))
+    return KeyFile(keys, dict(zip(names[1:], values)))
 
 
 def _rows(path: pathlib.Path) -> array.array[int]:

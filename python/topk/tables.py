@@ -287,8 +287,8 @@ class Table:
         names: Iterable[str] | None = None,
         progress: Callable[[str], None] = lambda file: None,
     ) -> Catalog:
-        """Writes the lists of all criteria, or of these, to a folder, with a catalog and the keys, for the program's
-        `run`, `node` and `serve`.
+        """Writes the lists of all criteria, or of these, to a folder, with a catalog, the keys and the values, for the
+        program's `run`, `node` and `serve`.
 
         Nothing is written where a cell is no number or a limit is passed. `progress` is called with the name of each
         file before it is written.
@@ -298,7 +298,7 @@ class Table:
             raise TableError("the table has no criterion, so there is no list to write: criteria= names some")
         if len(wanted) > MAX_CATALOG:
             raise LimitPassed(f"a catalog has at most {MAX_CATALOG} lists, and not {len(wanted)}")
-        lists = {it.name: (self.ranked_list(it).rows, it.grades) for it in wanted}
+        lists = {it.name: (self.ranked_list(it).rows, it.grades, self._columns[it.column]) for it in wanted}
         return write_lists(folder, self.objects, self._keys, lists, progress)
 
     def _answered(self, asked: Question, used: Mapping[str, Criterion], core: Core) -> NamedAnswer:

@@ -7,7 +7,7 @@ import sys
 from collections.abc import Callable, Iterable, Iterator
 from typing import Any
 
-from topk.catalogs import KEYS, read_keys
+from topk.catalogs import KEYS, KeyFile, read_keys
 from topk.certificates import Certificate
 from topk.commands.layout import in_columns
 from topk.commands.words import add_command
@@ -34,7 +34,7 @@ def add_to(commands: Any) -> None:
 
 def explain(given: argparse.Namespace) -> int:
     """Prints what the files, or standard input, mean. Ends with 1 where nothing in them is of topk."""
-    keys = read_keys(pathlib.Path(given.keys or KEYS)) if given.keys or pathlib.Path(KEYS).exists() else {}
+    known = read_keys(pathlib.Path(given.keys or KEYS)) if given.keys or pathlib.Path(KEYS).exists() else KeyFile()
     for status in given.status:
         said = of_status(status)
         print(f"Status {status}: {said.sentence} {said.cure}")
@@ -44,20 +44,19 @@ def explain(given: argparse.Namespace) -> int:
     if any(not text.strip() for text in texts):
         raise TableError("there is nothing to explain: topk printed nothing, and its exit status says why (--status)")
     for text in texts:
-        print("\n\n".join(explained(text, keys)))
+        print("\n\n".join(explained(text, known)))
     return 0
 
 
-def explained(text: str, keys: dict[int, str] | None = None) -> Iterator[str]:
+def explained(text: str, known: KeyFile = KeyFile()) -> Iterator[str]:
     """What each part of a text means: a certificate, a refusal or a verdict.
 
     >>> list(explained("refused 2 UnknownList prize"))
     ['Line 2: There is no list prize. Name a list of the catalog, or of the bundle, in the same upper and lower case.']
     """
-    known = keys or {}
 
     def name_of(item: str) -> str:
-        return f"{item} ({known[int(item)]})" if item.isdecimal() and int(item) in known else item
+        return f"{item} ({known.keys[int(item)]})" if item.isdecimal() and int(item) in known.keys else item
 
     for part in _parts(text):
         if part.startswith("certificate"):
@@ -111,8 +110,8 @@ def _named(row: str, name_of: Callable[[str], str]) -> str:
     return f"  {name_of(item)}: {grade}" if comma else row
 
 
-def _certificate(text: str, keys: dict[int, str]) -> str:
-    """What a certificate answers: its rows, with their names and the grades that it has, and how it was found."""
+def _certificate(text: str, known: KeyFile) -> str:
+    """What a certificate answers: its rows, with their keys, values and grades, and how it was found."""
     try:
         made = Certificate.parse(text)
         asked = parsed(made.answer.query.split(" ")[3])
@@ -121,12 +120,17 @@ def _certificate(text: str, keys: dict[int, str]) -> str:
     answer, names = made.answer, names_in(asked)
     items = {it.object for it in answer.objects}
     grades = {(it.list, it.object): it.grade for it in made.accesses() if it.object in items}
+
+    def cell(name: str, item: int) -> str:
+        value, grade = known.values.get(name, {}).get(item), str(grades.get((name, item), "not read"))
+        return f"{value} ({grade})" if value else grade
+
     rows = [
         [
             str(place),
-            keys.get(it.object, str(it.object)),
+            known.keys.get(it.object, str(it.object)),
             str(it.low) if it.low == it.high else f"{it.low} to {it.high}",
-            *(str(grades.get((name, it.object), "not read")) for name in names),
+            *(cell(name, it.object) for name in names),
         ]
         for place, it in enumerate(answer.objects, 1)
     ]
@@ -134,7 +138,8 @@ def _certificate(text: str, keys: dict[int, str]) -> str:
     best = f"best {len(rows)} of {answer.count} objects by {_in_words(asked)}"
     return "\n".join([
         f"{where} {best}:" if len(rows) > 1 else f"{where} {best.replace(' 1 ', ' ', 1)}:",
-        in_columns(["place", "key" if keys else "object", "score", *names], rows),
+        in_columns(["place", "key" if known.keys else "object", "score", *names], rows),
+        *(["In parentheses stand the grades."] if any(name in known.values for name in names) else []),
         *_figures(made),
     ])  # fmt: skip
 

@@ -37,7 +37,7 @@ def add_to(commands: Any) -> None:
     made.add_argument("--room", type=int, metavar="N", help="how many objects may be seen at most")
     made.add_argument("--check", action="store_true", help="let the core judge the certificate")
     made.add_argument("--certificate", metavar="FILE", help="write the certificate there")
-    made.add_argument("--keys", metavar="FILE", help="write there which number stands for which key")
+    made.add_argument("--keys", metavar="FILE", help="write there which number stands for which key, and the values")
     form = made.add_mutually_exclusive_group()
     form.add_argument("--json", action="store_true", help="as one JSON object")
     form.add_argument("--csv", action="store_true", help="as CSV, the rows alone")
@@ -56,7 +56,8 @@ def rank(given: argparse.Namespace) -> int:
         if given.certificate:
             pathlib.Path(given.certificate).write_text(answer.certificate, encoding="utf-8")
         if given.keys:
-            write_keys(given.keys, table.objects, table.keys)
+            values = {it.name: table.column(it.column) for it in table.criteria.values()}
+            write_keys(given.keys, table.objects, table.keys, values)
     names = {it.name: it.column for it in table.criteria.values() if it.name in answer[0].values}
     if given.json:
         print(json.dumps(_as_json(answer, names, verdict), ensure_ascii=False, indent=1))
