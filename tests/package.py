@@ -357,55 +357,41 @@ def package_missing(program: str) -> str | None:
     refusing = Table.from_rows(rows, "id", criteria=[criterion("x", missing="refuse")])
     none = Table.from_rows([{"id": 1, "x": ""}, {"id": 2, "x": None}], "id", criteria=[criterion("x", missing=7)])
     answer = Table.from_rows(rows, "id", criteria=[criterion("x")]).top(6, ["x"], core=Program(program))
-    return (
-        first_wrong(
-            [
-                (f"missing {missing}", found, [0, missing, missing, missing, missing, MILLION])
-                for missing, found in grades
-            ]
-        )
-        or first_wrong(
-            [
-                ("all missing", list(none.ranked_list("x").grades), [7, 7]),
-                ("a missing value", [row["x"] for row in answer if row.key == "e"], [None]),
-                ("one that is there", (answer[0].key, answer[0]["x"]), ("f", "3")),
-            ]
-        )
-        or not_refused(
-            [
-                (MissingValue, "row 2 ('b') has no x", lambda: refusing.ranked_list("x")),
-                (
-                    TableError,
-                    "row 1 ('a') has 'cheap' in the column x",
-                    lambda: Table.from_rows(
-                        [("a", "cheap")], "id", columns=("id", "x"), criteria=[criterion("x")]
-                    ).ranked_list("x"),
-                ),
-                (
-                    TableError,
-                    "not finite",
-                    lambda: Table({"x": [1.0, float("inf")]}, criteria=[criterion("x")]).ranked_list("x"),
-                ),
-                (
-                    TableError,
-                    "which is no number",
-                    lambda: Table({"x": [1, [2]]}, criteria=[criterion("x")]).ranked_list("x"),
-                ),
-                (TableError, "missing is a grade", lambda: criterion("x", missing=-1)),
-                (TableError, "missing is a grade", lambda: criterion("x", missing=True)),
-                (TableError, "best is", lambda: criterion("x", best="lower")),
-                (TableError, "no scale", lambda: criterion("x", scale="log")),
-                (TableError, "no scale", lambda: scale_of(5)),
-                (TableError, "to a greater one", lambda: criterion("x", scale=(9, 9))),
-                (
-                    TableError,
-                    "has to give a number from 0",
-                    lambda: criterion("x", scale=lambda value: 2).graded([1], str),
-                ),
-                (TableError, "says itself", lambda: criterion("x", best="low", scale=lambda value: 0).graded([1], str)),
-                (TableError, "no name of a criterion", lambda: criterion("x", name="2x")),
-            ]
-        )
+    wanted = [(f"missing {missing}", found, [0, *4 * [missing], MILLION]) for missing, found in grades]
+    return first_wrong(
+        [
+            *wanted,
+            ("all missing", list(none.ranked_list("x").grades), [7, 7]),
+            ("a missing value", [row["x"] for row in answer if row.key == "e"], [None]),
+            ("one that is there", (answer[0].key, answer[0]["x"]), ("f", "3")),
+        ]
+    ) or not_refused([(MissingValue, "row 2 ('b') has no x", lambda: refusing.ranked_list("x"))])
+
+
+def package_faults_of_criteria(program: str) -> str | None:
+    """What is no criterion, no scale and no number, the latter by the row's name."""
+
+    def ranked(*values: Any) -> Callable[[], Any]:
+        return lambda: Table({"id": list("ab"), "x": values}, key="id", criteria=[criterion("x")]).ranked_list("x")
+
+    def own(share: Callable[[Any], Any], **more: Any) -> Callable[[], Any]:
+        return lambda: criterion("x", scale=share, **more).graded([1], str)
+
+    return not_refused(
+        [
+            (TableError, "row 1 ('a') has 'cheap' in the column x", ranked("cheap", 1)),
+            (TableError, "not finite", ranked(1.0, float("inf"))),
+            (TableError, "which is no number", ranked(1, [2])),
+            (TableError, "missing is a grade", lambda: criterion("x", missing=-1)),
+            (TableError, "missing is a grade", lambda: criterion("x", missing=True)),
+            (TableError, "best is", lambda: criterion("x", best="lower")),
+            (TableError, "no scale", lambda: criterion("x", scale="log")),
+            (TableError, "no scale", lambda: scale_of(5)),
+            (TableError, "to a greater one", lambda: criterion("x", scale=(9, 9))),
+            (TableError, "has to give a number from 0", own(lambda value: 2)),
+            (TableError, "says itself", own(lambda value: 0, best="low")),
+            (TableError, "no name of a criterion", lambda: criterion("x", name="2x")),
+        ]
     )
 
 
@@ -714,7 +700,7 @@ def package_faults_of_questions(program: str) -> str | None:
 
 
 def package_sizes(program: str) -> str | None:
-    """One row, fewer rows than are asked for, no row, 200,000 rows and one more."""
+    """One row, fewer rows than are asked for, and 200,000 rows."""
     core = Program(program)
     one = Table({"id": ["only"], "x": ["7"]}, key="id", criteria=[criterion("x")]).top(10, ["x"], core=core)
     three = Table({"x": [5, 9, 7]}, criteria=[criterion("x")]).top(10, ["x"], core=core)
@@ -725,54 +711,39 @@ def package_sizes(program: str) -> str | None:
         criteria=[criterion("x", scale=(0, 250_000)), criterion("y", best="low", scale=(0, 250_000))],
     )
     answer = table.top(3, {"x": 2, "y": 1}, core=core)
-    above = Table({"x": [*values, 1]}, criteria=[criterion("x")])
+    scores = [2 * 4 * x + MILLION - 4 * y for x, y in zip(values, values[::-1])]
+    bound = answer.rounding and (answer.rounding.score, str(answer.rounding))
+    return wrong_answer(answer, range(1, 200_001), scores, 3) or first_wrong(
+        [
+            ("one row", (one.keys, one[0]["x"], one.check()), (["only"], "7", Fixes())),
+            ("three rows", three.keys, [2, 3, 1]),
+            ("that is asked", three.query, "top 3 by x using ta"),
+            ("the bound of exact grades", bound, (0, "No grade was rounded: the order is that of the values.")),
+        ]
+    )
+
+
+def package_limits(program: str) -> str | None:
+    """No row, one row more than 200,000 but for a filter, and what is no table or has no list: nothing is written."""
+    core = Program(program)
+    above, none = Table({"x": range(200_001)}, criteria=[criterion("x")]), Table({"x": []}, criteria=[criterion("x")])
+    word = Table({"x": [1, 2], "y": [1, "z"]}, criteria=[criterion("x"), criterion("y")])
     with tempfile.TemporaryDirectory() as place:
         folder = pathlib.Path(place) / "lists"
         faults = not_refused(
             [
                 (LimitPassed, "has 200001 rows, and topk ranks at most 200000", lambda: above.top(1, ["x"], core=core)),
                 (LimitPassed, "has 200001 rows", lambda: above.write_lists(folder)),
-                (
-                    TableError,
-                    "no row to rank",
-                    lambda: Table({"x": []}, criteria=[criterion("x")]).top(1, ["x"], core=core),
-                ),
-                (TableError, "no row to rank", lambda: Table({"x": []}, criteria=[criterion("x")]).write_lists(folder)),
-                (
-                    TableError,
-                    "no number",
-                    lambda: Table({"x": [1, 2], "y": [1, "z"]}, criteria=[criterion("x"), criterion("y")]).write_lists(
-                        folder
-                    ),
-                ),
+                (TableError, "no row to rank", lambda: none.top(1, ["x"], core=core)),
+                (TableError, "no row to rank", lambda: none.write_lists(folder)),
+                (TableError, "no number", lambda: word.write_lists(folder)),
                 (TableError, "no criterion", lambda: Table({"x": [1]}).write_lists(folder)),
                 (TableError, "different lengths", lambda: Table({"x": [1], "y": [1, 2]})),
             ]
         )
         written = folder.exists()
-    scores = [2 * 4 * x + MILLION - 4 * y for x, y in zip(values, values[::-1])]
-    return (
-        faults
-        or wrong_answer(answer, range(1, 200_001), scores, 3)
-        or first_wrong(
-            [
-                ("one row", (one.keys, one[0]["x"], one.check()), (["only"], "7", Fixes())),
-                ("three rows", three.keys, [2, 3, 1]),
-                ("that is asked", three.query, "top 3 by x using ta"),
-                (
-                    "the bound of exact grades",
-                    answer.rounding and (answer.rounding.score, str(answer.rounding)),
-                    (0, "No grade was rounded: the order is that of the values."),
-                ),
-                (
-                    "one row more is let through by a filter",
-                    above.top(1, ["x"], where={"x": lambda x: x > 1}, core=core).count,
-                    199_998,
-                ),
-                ("a folder was written", written, False),
-            ]
-        )
-    )
+    kept = above.top(1, ["x"], where={"x": lambda x: x > 1}, core=core).count
+    return faults or first_wrong([("rows behind a filter", kept, 199_999), ("a folder was written", written, False)])
 
 
 # Folders, evidence, and both ways.
@@ -1102,6 +1073,7 @@ def tests() -> Iterator[tuple[str, Callable[[str], str | None]]]:
         package_grades,
         package_floats,
         package_missing,
+        package_faults_of_criteria,
         package_ties,
         package_keys,
         package_readers,
@@ -1111,6 +1083,7 @@ def tests() -> Iterator[tuple[str, Callable[[str], str | None]]]:
         package_choices,
         package_faults_of_questions,
         package_sizes,
+        package_limits,
         package_folders,
         package_faults_of_folders,
         package_evidence,
