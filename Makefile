@@ -53,7 +53,8 @@ lib:
 	$(AR) r c/out/libtopk.a c/out/heap.o
 	$(CC) -shared -o c/out/libtopk.so -Wl,--whole-archive c/out/libtopk.a -Wl,--no-whole-archive
 	cp c/out/libtopk.so python/topk/libtopk.so
-	if python3 -c 'import setuptools, wheel, pip' 2> /dev/null; then $(MAKE) --no-print-directory wheel; fi
+	@if python3 -c 'import setuptools, wheel, pip' 2> /dev/null; then $(MAKE) --no-print-directory wheel; \
+		else echo "no wheel is made: this python3 has no pip with setuptools and wheel"; fi
 
 # A wheel of the Python package for this machine, with the library where `make lib` has built it: c/out/topk-VERSION-py3-none-linux_x86_64.whl.
 wheel:
