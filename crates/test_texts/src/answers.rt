@@ -6,7 +6,9 @@ use cert_text::{Outcome, write_outcome};
 use machine_base::Answer;
 use query_text::{Query, read};
 use std::alloc::Global;
-use test_support::{FIRST_ACCESSES, FIRST_ITEM, FIRST_QUERY, FIRST_TEXT, Counting, sorted, wrong_texts};
+use test_support::{
+    Counting, FIRST_ACCESSES, FIRST_ITEM, FIRST_QUERY, FIRST_TEXT, sorted, wrong_texts,
+};
 use tk_io::{MemSink, Sink};
 
 /// A query without costs, how many objects it is asked over, the one object of its answer, the accesses that it made, and the
