@@ -111,8 +111,8 @@ pub first_served : (name : List ℕ) (version : Option ℕ) (before mid now : Po
     → GivesFirst before.links mid.links came held → IsAtEnd held → mid.closed ≡ before.closed → mid.faults ≡ before.faults
     → mid.calls ≡ with_more (PortCall.Gave ∷ []) before.calls
     → now.links ≡ mid.links → now.faults ≡ mid.faults → now.calls ≡ with_more (PortCall.TookBack ∷ []) mid.calls → ServesOne name version came held mid.closed now.closed source source_now
-    → ServesFirst name version before now source source_now
-first_served name version before mid now came held source source_now first unused closed faults gave links quiet took serves = record {
+    → source_now.list ≡ source.list → source_now.states ≡ source.states → ServesFirst name version before now source source_now
+first_served name version before mid now came held source source_now first unused closed faults gave links quiet took serves list states = record {
   one = serves.one;
   given_back = subst (λ c. ClosesOne c now.closed serves.one) closed serves.given_back;
   in_turn = took ∙ (ap (with_more (PortCall.TookBack ∷ [])) gave ∙ calls_then (PortCall.Gave ∷ []) (PortCall.TookBack ∷ []) before.calls);
@@ -124,6 +124,8 @@ first_served name version before mid now came held source source_now first unuse
     end = serves.end;
     ends = serves.ends;
     sparing = serves.sparing;
+    list = list;
+    states = states;
   };
   quiet = quiet ∙ faults;
 }

@@ -37,7 +37,8 @@ visit_of came held one source source_now = record {
   source_now = source_now;
 }
 
--- the first link to come was taken and served, and this is left of it: its connection ended as one of a node does, and was read no further than its request
+-- the first link to come was taken and served, and this is left of it: its connection ended as one of a node does, and was read no further than its request.
+-- The source's list and the version that it states are those that they were before the link
 pub record ServesLink (name : List ℕ) (version : Option ℕ) (links links_now : Option (List (List ℕ))) (source source_now : Seen) (one : Closed) : Type 0 where
   pub came : Option (List ℕ)
   pub held : Option (List ℕ)
@@ -46,6 +47,8 @@ pub record ServesLink (name : List ℕ) (version : Option ℕ) (links links_now 
   pub end : ConnEnd
   pub ends : Ends name version (visit_of came held one source source_now) end
   pub sparing : WasReadSparingly HoldsRequest one.pieces
+  pub list : source_now.list ≡ source.list
+  pub states : source_now.states ≡ source.states
 
 -- links were served one after another, and these are left of them
 abbrev pub ServesEach : List ℕ → Option ℕ → Option (List (List ℕ)) → Option (List (List ℕ)) → Seen → Seen → List Closed → Type 0

@@ -21,3 +21,4 @@ returns-in-Ok-Some-clause-serves g c =
     subst (λ (call : PortCall). g.P.Port.calls c.accept.new.self ≡ with_more (call ∷ []) (g.P.Port.calls c.args.port.now)) (ap accepted (c.in-Ok-Some.is ∙ ap Ok c.in-Ok-Some.field-0-is)) c.accept.ensures.calls in
     first_served c.args.routes.now c.args.version before mid now came held source source_now given fresh.taken c.in-Ok-Some.ensures.closed
     c.in-Ok-Some.ensures.cause.stays gave c.serve_link.ensures.links c.serve_link.ensures.faults c.serve_link.ensures.calls c.serve_link.ensures.serves
+    c.serve_link.ensures.list c.serve_link.ensures.states
