@@ -44,7 +44,8 @@ fn serve_link<L: Link + Send + Drop>(
     link.close();
 }
 
-/// A worker serves links, one after another, until there are none to take. Meanwhile it remembers its last answers.
+/// A worker serves links, one after another, until there are none to take. Meanwhile it remembers its last answers. Where there is no memory for what it
+/// keeps it takes none, and nobody takes links any more.
 fn serve_links<L: Link + Send + Drop>(
     rt: &impl Wait,
     alloc: Global,
@@ -56,7 +57,10 @@ fn serve_links<L: Link + Send + Drop>(
     requires { MayAnswer catalog.now pool.now worker.old.pass }
     ensures { MayAnswer catalog.now pool.now worker.new.pass }
 {
-    let mut answers = Answers::make(alloc);
+    let Ok(mut answers) = Answers::make(alloc) else {
+        queue.leave(rt);
+        return;
+    };
     for _ in rt.forever() {
         let Some(link) = queue.take(rt) else {
             return;

@@ -1,10 +1,11 @@
-//! The answers that a worker remembers.
+//! What a worker keeps from one connection to the next.
 
 ghost use Rattle.std.specs.Prelude.{◌≡◌, ◌≤◌, ◌<◌, [], length, option_copied, IfOk, OnOk, OnErr};
 ghost use Rattle.std.specs.Vec.{vec_len, vec_capacity};
 ghost use Rattle.server_conn.specs.Answers.{text_of, room_made, AreFew, Keeps};
 
 use super::line::ToldLine;
+use super::route::TopRoute;
 use std::alloc::Global;
 use std::marker::Model;
 use topk_base::{MAX_LINE, Memory};
@@ -23,9 +24,10 @@ pub(crate) struct Answer {
 }
 
 /// The last query lines that a worker answered through its pass, the oldest first, each with the text of its answer: at most `MAX_ANSWERS`, of at most
-/// `MAX_ANSWER` bytes. No refusal is among them.
+/// `MAX_ANSWER` bytes. No refusal is among them. Beside them stands the route of its requests, of which contracts see nothing, as it never changes.
 #[derive(Drop)]
 pub struct Answers {
+    route: TopRoute,
     kept: Vec<Answer>,
 }
 
@@ -42,13 +44,18 @@ impl Model for Answers {
 }
 
 impl Answers {
-    /// No answers. Takes no memory.
-    pub fn make(alloc: Global) -> Answers
-        ensures { result ≡ [] }
+    /// No answers. Takes memory for the route alone.
+    pub fn make(alloc: Global) -> Result<Answers, Memory>
+        ensures { IfOk result (λ answers. answers ≡ []) }
     {
-        Answers {
-            kept: Vec::new(alloc),
-        }
+        let route = TopRoute::make(alloc)?;
+        let kept = Vec::new(alloc);
+        Ok(Answers { route, kept })
+    }
+
+    /// The route of requests.
+    pub(crate) fn route(&self) -> &TopRoute {
+        &self.route
     }
 
     /// The text that is remembered of a line.

@@ -5,6 +5,7 @@ ghost use Rattle.std.specs.Cow.{cow_str_bytes};
 ghost use Rattle.std.specs.Result.{result_map_both};
 ghost use Rattle.server_conn.specs.Asking.{routed, AsksFor, AsksAt};
 
+use super::route::TopRoute;
 use std::alloc::Global;
 use std::borrow::CowStr;
 use wire::{Head, Refusal, read_target, value_in};
@@ -14,17 +15,21 @@ use wire::{Head, Refusal, read_target, value_in};
 /// The first that holds decides: a method other than GET is not allowed; a target that doesn't begin with `/` is bad, once it is read as
 /// RFC 9112, section 3.2 says; a path other than `/top` isn't found; and a query part without `q` is bad. The line is the value of the
 /// first `q`, which is empty where that has no `=`. Only a query part takes memory to read.
-pub(crate) fn line_asked<'h>(alloc: Global, head: &'h Head) -> Result<CowStr<'h>, Refusal>
+pub(crate) fn line_asked<'h>(
+    alloc: Global,
+    route: &TopRoute,
+    head: &'h Head,
+) -> Result<CowStr<'h>, Refusal>
     ensures { AsksFor head.now.method head.now.target.items (result_map_both cow_str_bytes (λ why. why) result) }
 {
-    match routed(head) {
+    match routed(route, head) {
         Ok(query) => line_at(alloc, query),
         Err(why) => Err(why),
     }
 }
 
 /// The query part of a request on the route, by its method and its target.
-fn routed(head: &Head) -> Result<&[u8], Refusal>
+fn routed<'h>(route: &TopRoute, head: &'h Head) -> Result<&'h [u8], Refusal>
     ensures { result_map_both (λ query. query.now) (λ why. why) result ≡ routed head.now.method head.now.target.items }
 {
     if !head.is_get() {
@@ -33,7 +38,7 @@ fn routed(head: &Head) -> Result<&[u8], Refusal>
     let Some(target) = read_target(head.target.as_slice()) else {
         return Err(Refusal::BadRequest);
     };
-    if target.path != b"/top".as_slice() {
+    if !route.is_at(target.path) {
         return Err(Refusal::NotFound);
     }
     Ok(target.query)

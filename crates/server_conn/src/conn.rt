@@ -103,7 +103,7 @@ fn answer_head<L: Link>(
         (L.held link.old) (L.held link.new) (L.Sink.faults link.old) (L.Sink.faults link.new) result }
 {
     let is_head = head.is_head();
-    match line_asked(alloc, head) {
+    match line_asked(alloc, answers.route(), head) {
         Ok(line) => {
             let bytes = line.as_str().as_bytes();
             let turn = answer_line(

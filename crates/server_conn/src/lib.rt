@@ -11,6 +11,7 @@ mod conn;
 mod laws;
 mod line;
 mod opened;
+mod route;
 mod text;
 
 pub use answers::{Answers, MAX_ANSWER, MAX_ANSWERS};

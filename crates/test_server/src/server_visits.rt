@@ -68,9 +68,10 @@ fn answer(
 )
     requires { MayAnswer lists.now pool.now pass.old }
 {
-    let mut answers = Answers::make(alloc);
-    *turn = Some(serve_conn(rt, alloc, lists, pool, pass, &mut answers, link));
-    drop(answers);
+    if let Ok(mut answers) = Answers::make(alloc) {
+        *turn = Some(serve_conn(rt, alloc, lists, pool, pass, &mut answers, link));
+        drop(answers);
+    }
     stop.set(pool);
 }
 
