@@ -1,10 +1,8 @@
-//! Tests of the state of a source, of looks at it and of what is fetched next, and of the tree of grades under it.
+//! Tests of the state of a source, of looks at it and of what is fetched next.
 //!
 //! They have rows that were worked out by hand, and each public call once.
 #![tactic(auto)]
 
-#[cfg(test)]
-mod grades;
 #[cfg(test)]
 mod histories;
 #[cfg(test)]
