@@ -72,19 +72,19 @@ def ranked_rows(objects: Sequence[int], grades: Sequence[int]) -> array.array[in
     >>> ranked_rows([3, 7, 1], [850, 900, 850]), ranked_rows(range(1, 4), [850, 900, 850])
     (array('I', [7, 900, 3, 850, 1, 850]), array('I', [2, 900, 1, 850, 3, 850]))
     """
-    order = sorted(range(len(grades)), key=grades.__getitem__, reverse=True)
+    places = objects if isinstance(objects, range) else range(len(grades))
+    by_place = [0] * places.start + list(grades)
+    order = sorted(places, key=by_place.__getitem__, reverse=True)
     rows = array.array("I", bytes(8 * len(order)))
-    rows[0::2] = _picked(objects, order)
-    rows[1::2] = _picked(grades, order)
+    rows[0::2] = array.array("I", order if places is objects else _picked(objects, order))
+    rows[1::2] = array.array("I", _picked(by_place, order))
     return rows
 
 
-def _picked(column: Sequence[int], places: list[int]) -> array.array[int]:
+def _picked(column: Sequence[int], places: list[int]) -> list[int]:
     """The numbers of a column at these places."""
-    if isinstance(column, range):
-        return array.array("I", [column.start + place for place in places])
     numbers = array.array("I", column)  # An array is small, so that going about in it is quicker than in a list.
-    return array.array("I", [numbers[place] for place in places])
+    return [numbers[place] for place in places]
 
 
 def line_of(query: str) -> str:
