@@ -200,6 +200,25 @@ module _ {S : Type 0} (list : S → Option (List Row)) (counts : S → Counts) (
       subst (IsAtHand at_hand after) (get_or_default now i NotOpened d l)
       (hand_of before after (home_at homes i) (entry_at entries i) (entry_at now i) (at.each i) (so.each i))
 
+module _ {S : Type 0} (list : S → Option (List Row)) (counts : S → Counts) (calls : S → Option (List Call)) (at_hand : S → ℕ) where
+  again_at : (before after : List (Slot S)) (home : Option ℕ) (first was now : OpenedEntry) → (home ≡ None → was ≡ first)
+      → ReopensAt list counts calls at_hand before after home was now → ReopensAt list counts calls at_hand before after home first now
+  again_at before after None first was now same is = is ∙ same refl
+  again_at before after (Some source) first was now same is = is
+
+  -- lists that were asked again before became what they are by the last answers alone
+  pub reopened_since : (homes : List (Option ℕ)) (first was now : List OpenedEntry) (before after : List (Slot S))
+      → ((place : ℕ) → home_at homes place ≡ None → entry_at was place ≡ entry_at first place)
+      → ReopensAll list counts calls at_hand homes was now before after → ReopensAll list counts calls at_hand homes first now before after
+  reopened_since homes first was now before after stay so =
+      record { each = λ place. again_at before after (home_at homes place) (entry_at first place) (entry_at was place) (entry_at now place) (stay place) (so.each place) }
+
+  -- a list without a source stays as it was
+  pub stay_reopened : (homes : List (Option ℕ)) (first was : List OpenedEntry) (before after : List (Slot S)) → ReopensAll list counts calls at_hand homes first was before after
+      → (place : ℕ) → home_at homes place ≡ None → entry_at was place ≡ entry_at first place
+  stay_reopened homes first was before after so place none =
+      subst (λ h. ReopensAt list counts calls at_hand before after h (entry_at first place) (entry_at was place)) none (so.each place)
+
 -- what asking leaves of the sources
 pub keeps_asked : {S : Type 0} (list : S → Option (List Row)) (counts : S → Counts) (calls : S → Option (List Call)) (homes : List (Option ℕ)) (before after : List (Slot S))
     → AsksSome list counts calls homes before after → KeepsSources list counts before after

@@ -1,6 +1,6 @@
 //! Generations of a server.
 
-ghost use Rattle.std.specs.Prelude.{◌≡◌, ◌<◌, ◌^◌, ℕ, List, None, All, OnOk, false, length, map};
+ghost use Rattle.std.specs.Prelude.{◌≡◌, ◌<◌, ◌^◌, ℕ, List, None, All, OnErr, OnOk, false, length, map};
 ghost use Rattle.topk_base.specs.Ranges.{AreSettings};
 ghost use Rattle.batch_run.specs.Crews.{IsNewCrew};
 ghost use Rattle.query_server.specs.Homes.{AreHomes, AreAtHome, HaveHomes, IsCounted, home_of};
@@ -95,6 +95,7 @@ fn reopen<S: Source>(
     requires many { length homes.now ≡ length catalog.old.entries }
     requires empty { All (λ slot. slot.feeder ≡ None) slots.old }
     ensures asks { AsksSome S.list S.counts S.calls homes.now slots.old slots.new }
+    ensures stay { OnErr result (catalog.new.entries ≡ catalog.old.entries) }
     ensures reopens { OnOk result (ReopensAll S.list S.counts S.calls S.at_hand homes.now catalog.old.entries catalog.new.entries slots.old slots.new) }
     ensures empty { All (λ slot. slot.feeder ≡ None) slots.new }
     ensures catalog { catalog.new.catalog ≡ catalog.old.catalog }
@@ -125,7 +126,7 @@ fn serve_generations<W: Threads + Wait + Sync, S: Source, L: Link + Send + Drop>
     requires many { length homes.now ≡ length catalog.old.entries }
     requires at_hand { All (IsAtHand S.at_hand slots.old) catalog.old.entries }
     requires empty { All (λ slot. slot.feeder ≡ None) slots.old }
-    ensures left { Leaves S.list S.counts homes.now slots.old slots.new catalog.old catalog.new }
+    ensures left { Leaves S.list S.counts S.calls S.at_hand homes.now slots.old slots.new catalog.old catalog.new }
     ensures at_hand { OnOk result (All (IsAtHand S.at_hand slots.new) catalog.new.entries) }
 {
     for _ in rt.forever() {
@@ -157,7 +158,7 @@ pub(crate) fn serve_side<W: Threads + Wait + Sync, S: Source, L: Link + Send + D
     requires homes { AreHomes (length slots.old) (map home_of catalog.old.entries) }
     requires at_hand { All (IsAtHand S.at_hand slots.old) catalog.old.entries }
     requires empty { All (λ slot. slot.feeder ≡ None) slots.old }
-    ensures left { Leaves S.list S.counts (map home_of catalog.old.entries) slots.old slots.new catalog.old catalog.new }
+    ensures left { Leaves S.list S.counts S.calls S.at_hand (map home_of catalog.old.entries) slots.old slots.new catalog.old catalog.new }
     ensures at_hand { result ≡ false → All (IsAtHand S.at_hand slots.new) catalog.new.entries }
 {
     let Ok(homes) = homes_of(alloc, catalog.entries()) else {

@@ -52,8 +52,8 @@ fn accept_side<P: Port>(rt: &impl Wait, port: &mut P, queue: &LinkQueue<P::L>, c
 /// A source that moves to another version ends a generation: no connection begins until those that were begun have ended, and then each
 /// source of a list that was open at first is asked for its size, and for nothing else, once a further link has come, the catalog gets
 /// what became of the lists, and a new pool is made. So the answers of a generation are of one version of each list, the one that its
-/// source has at hand. A list that was open at first and can't be opened in one generation is asked for again in the next; one that wasn't
-/// open at first stays so.
+/// source has at hand. A list isn't open then only where its source failed or was garbled when it was asked, or states too many objects; it is
+/// asked for again in the next generation. One that wasn't open at first stays so.
 ///
 /// *Cost*: the queue, and for each generation a pool and a pass for each worker.
 #[tactic(auto, using(crate::proofs::TakingLaws::asked_some))]
@@ -74,7 +74,7 @@ pub fn serve_all<W: Threads + Wait + Sync, S: Source, P: Port>(
     ensures serves { ServesLinks conns (P.links port.old) (P.links port.new) (P.faults port.old) (P.faults port.new) result }
     ensures closed { P.closed port.new ≡ P.closed port.old }
     ensures calls { AsksForLinks conns (P.calls port.old) (P.calls port.new) result }
-    ensures left { Leaves S.list S.counts (map home_of catalog.old.entries) sources.old sources.new catalog.old catalog.new }
+    ensures left { Leaves S.list S.counts S.calls S.at_hand (map home_of catalog.old.entries) sources.old sources.new catalog.old catalog.new }
     ensures at_hand { result ≢ Served.Memory → All (IsAtHand S.at_hand sources.new) catalog.new.entries }
 {
     let Ok(queue) = LinkQueue::make(alloc, settings.workers) else {
