@@ -6,6 +6,7 @@ from python/topk.py.
 from __future__ import annotations
 
 import array
+import contextlib
 import ctypes
 import doctest
 import functools
@@ -35,6 +36,7 @@ GUARD = b"\xa5"
 # A list's name and rows.
 NamedRows = Tuple[bytes, "list[tuple[int, int]]"]
 _BUILDING = threading.Lock()
+COUNTED = threading.Lock()
 
 
 def built(heap: str) -> str:
@@ -78,6 +80,13 @@ def library(heap: str = "c/heap.c") -> ctypes.CDLL:
         call.argtypes = [*given, *text, ctypes.POINTER(ctypes.c_size_t)]
         call.restype = ctypes.c_uint8
     return found
+
+
+@contextlib.contextmanager
+def counted_library() -> Iterator[ctypes.CDLL]:
+    """The library over the heap that counts, for one test at a time: its count is of the whole process."""
+    with COUNTED:
+        yield library("tests/failing_heap.c")
 
 
 def rows_given(lists: Sequence[NamedRows], query: bytes) -> tuple[Any, ...]:
@@ -297,40 +306,41 @@ def library_on_threads(program: str) -> str | None:
 
 def library_keeps_nothing(program: str) -> str | None:
     """After each of 10,000 calls no block is left."""
-    found, rows = library("tests/failing_heap.c"), rows_of_bundle()
-    out, written = ctypes.create_string_buffer(4096), ctypes.c_size_t()
-    found.test_fail_at(0)
-    for number in range(10_000):
-        found.topk_answer_rows(*rows, out, 4096, ctypes.byref(written))
-        found.topk_answer(BUNDLE, len(BUNDLE), out, 4096, ctypes.byref(written))
-        found.topk_judge(BEATEN, len(BEATEN), out, 4096, ctypes.byref(written))
-        if found.test_blocks() != 0:
-            return f"round {number}: {found.test_blocks()} blocks weren't given back"
-    return None
+    rows = rows_of_bundle()
+    with counted_library() as found:
+        out, written = ctypes.create_string_buffer(4096), ctypes.c_size_t()
+        found.test_fail_at(0)
+        for number in range(10_000):
+            found.topk_answer_rows(*rows, out, 4096, ctypes.byref(written))
+            found.topk_answer(BUNDLE, len(BUNDLE), out, 4096, ctypes.byref(written))
+            found.topk_judge(BEATEN, len(BEATEN), out, 4096, ctypes.byref(written))
+            if found.test_blocks() != 0:
+                return f"round {number}: {found.test_blocks()} blocks weren't given back"
+        return None
 
 
 def library_refused_memory(program: str) -> str | None:
     """Each of the first 200 allocations refused in turn: the whole text or none, and every block is given back."""
-    found = library("tests/failing_heap.c")
-    bundle = made_bundle(300, 6, b"top 20 by sum(min(l0,l1),wsum(2*l2,3*l3),median(l3,l4,l5)) using ca cost 1 3")
-    certificate = whole(found.topk_answer, bundle)[1]
-    rows = rows_given(*(taken_apart(bundle) or ([], b"")))
-    for call, given in ((found.topk_answer, BUNDLE), (found.topk_judge, BEATEN), (found.topk_answer, bundle),
-                        (found.topk_answer_rows, rows), (found.topk_judge, certificate)):
-        found.test_fail_at(0)
-        status, text, _ = whole(call, given)
-        refused = 0
-        for number in range(1, 201):
-            found.test_fail_at(number)
-            ended = called(call, given, len(text))
-            if ended not in ((status, len(text), text + GUARD), (8, 0, GUARD * (len(text) + 1))):
-                return f"allocation {number} was refused: {ended}"
-            if found.test_blocks() != 0:
-                return f"allocation {number} was refused: {found.test_blocks()} blocks weren't given back"
-            refused += ended[0] == 8
-        if refused == 0:
-            return "no allocation was refused"
-    return None
+    with counted_library() as found:
+        bundle = made_bundle(300, 6, b"top 20 by sum(min(l0,l1),wsum(2*l2,3*l3),median(l3,l4,l5)) using ca cost 1 3")
+        certificate = whole(found.topk_answer, bundle)[1]
+        rows = rows_given(*(taken_apart(bundle) or ([], b"")))
+        for call, given in ((found.topk_answer, BUNDLE), (found.topk_judge, BEATEN), (found.topk_answer, bundle),
+                            (found.topk_answer_rows, rows), (found.topk_judge, certificate)):
+            found.test_fail_at(0)
+            status, text, _ = whole(call, given)
+            refused = 0
+            for number in range(1, 201):
+                found.test_fail_at(number)
+                ended = called(call, given, len(text))
+                if ended not in ((status, len(text), text + GUARD), (8, 0, GUARD * (len(text) + 1))):
+                    return f"allocation {number} was refused: {ended}"
+                if found.test_blocks() != 0:
+                    return f"allocation {number} was refused: {found.test_blocks()} blocks weren't given back"
+                refused += ended[0] == 8
+            if refused == 0:
+                return "no allocation was refused"
+        return None
 
 
 def library_header(program: str) -> str | None:
