@@ -79,10 +79,11 @@ class Clock:
         self.least[name] = min(took, self.least.get(name, took))
         return result
 
-    def watch(self, module: ModuleType, function: str, name: str) -> None:
-        """Times each call of a module's function under this name."""
-        work = getattr(module, function)
-        setattr(module, function, lambda *given: self.call(name, work, *given))
+    def watch(self, place: Any, function: str, name: str) -> Callable[..., Any]:
+        """Times each call of a module's or a class's function under this name, and returns the function."""
+        work: Callable[..., Any] = getattr(place, function)
+        setattr(place, function, lambda *given: self.call(name, work, *given))
+        return work
 
 
 def written(program: str, words: Sequence[str], text: bytes) -> bytes:
@@ -93,15 +94,16 @@ def written(program: str, words: Sequence[str], text: bytes) -> bytes:
 def measured(topk: ModuleType, program: str, made: bytes, query: str, rounds: int) -> dict[str, float]:
     """The least seconds of an answer from Python and of its parts, by rows and by text, and of the program."""
     lists, bundle, clock, by_text = lists_in(made), made + f"query {query}\n".encode(), Clock(), Clock()
-    kept = {function: getattr(topk, function) for function in ("_rows_of", "_called", "_answered")}
-    for function, name in zip(kept, ("arrays", "library", "parts")):
-        clock.watch(topk, function, name)
+    library = importlib.import_module("topk.library")
+    watched = [(importlib.import_module("topk.cores"), "rows_of", "arrays"), (library.Library, "_called", "library"),
+               (library, "answered", "parts")]
+    kept = [(place, function, clock.watch(place, function, name)) for place, function, name in watched]
     for _ in range(rounds):
         text = clock.call("program", written, program, ["one"], bundle)
         answer = clock.call("answer", topk.answer, lists, query)
         assert answer.certificate.encode() == text
-    for function, work in kept.items():
-        setattr(topk, function, work)
+    for place, function, work in kept:
+        setattr(place, function, work)
     for _ in range(rounds):
         way = by_text.call("by text", lambda: topk.answer_bundle(by_text.call("text", topk.bundle_of, lists, query)))
         assert way == answer

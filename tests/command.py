@@ -27,6 +27,7 @@ from machine import SECONDS, Skipped, free_port, over_network, path_of, peer
 
 REPOSITORY = pathlib.Path(__file__).resolve().parent.parent
 PYTHON = REPOSITORY / "python"
+LIBRARY = PYTHON / "topk" / "libtopk.so"
 VIEW = REPOSITORY / "examples" / "view" / "refusals.js"
 HOTELS = """name,price,rating,city
 "Adler, old",120,4.5,Bern
@@ -160,7 +161,8 @@ def command_wrong_words(program: str) -> str | None:
                 return f"{given}: {said}"
         left = sorted(it.name for it in place.iterdir())
         lost = command("/nowhere/topk", *table, "--by", "price", place=place)
-    return first_wrong([("what is left", left, ["hotels.csv"]), ("without a core", lost[0], 1)])
+    status = 0 if LIBRARY.exists() else 1
+    return first_wrong([("what is left", left, ["hotels.csv"]), ("without a program", lost[0], status)])
 
 
 def command_help(program: str) -> str | None:

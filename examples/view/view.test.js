@@ -312,7 +312,8 @@ test("each algorithm of the program is known", () => {
 function writtenInCases() {
   const cases = path.join(ROOT, "tests", "cases");
   const names = fs.readdirSync(cases).filter((name) => /^(run|one)_/.test(name));
-  return names.map((name) => fs.readFileSync(path.join(cases, name, "output"), "utf8"));
+  const outputs = names.map((name) => path.join(cases, name, "output")).filter((file) => fs.existsSync(file));
+  return outputs.map((file) => fs.readFileSync(file, "utf8"));
 }
 
 test("the examples of the program are read whole, and their figures are those of their accesses", () => {
