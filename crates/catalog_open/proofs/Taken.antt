@@ -160,7 +160,7 @@ module _ {S : Type 0} (view : S → SourceView) where
   took_became (Taken source None) true place before mid now same moves took = (
     record {
       fresh = took.2.fresh;
-      unasked = took.2.unasked;
+      uncalled = took.2.uncalled;
       tells = subst (λ list. IfSome list (λ rows. (view source).list ≡ Some rows)) (same.lists place) took.2.tells;
       stated = subst (λ version. IfSome version (λ told. (view source).states ≡ Some told)) (same.versions place) took.2.stated;
     },
@@ -216,19 +216,24 @@ module _ {S : Type 0} (view : S → SourceView) where
   stated_then None stated held is at = tt
   stated_then (Some v) stated held is at = subst (λ o. IfSome o (λ w. held ≡ w)) is at
 
+  -- the first call is the only one
+  asked_first : (before now : Option (List Call)) (call : Call) → IsUncalled before → now ≡ with_call call before → IfSome now (λ calls. calls ≡ call ∷ [])
+  asked_first None now call none is = subst (λ o. IfSome o (λ calls. calls ≡ call ∷ [])) (sym is) tt
+  asked_first (Some made) now call none is = subst (λ o. IfSome o (λ calls. calls ≡ call ∷ [])) (sym is) (ap (λ calls. calls ++ call ∷ []) none)
+
   pub asked_now : (source source_now : S) (r : Result ℕ Trouble) → (view source_now).list ≡ (view source).list → GaveNothing (view source).counts (view source_now).counts
       → OnOk r ((view source_now).counts ≡ (view source).counts) → IfErr r (TroubleHasCause (view source).counts (view source_now).counts) → IfErr r IsNoMove
       → IfOk r (λ size. IfSome (view source).list (λ rows. size ≡ length rows)) → OnOk r (IfSome (view source).states (λ v. (view source_now).at_hand ≡ v))
       → (view source_now).calls ≡ with_call (Call.Size r) (view source).calls
       → IsAsked view (Taken source None) (Taken source_now (Some r))
   asked_now source source_now (Ok size) same given quiet cause unmoved sized at once = λ list version new. record {
-    asked = record { first = view source; fresh = new.fresh; unasked = new.unasked; once = once };
+    asked = asked_first (view source).calls (view source_now).calls (Call.Size (Ok size)) new.uncalled once;
     fresh = quiet ∙ new.fresh;
     tells = told_as list (view source).list (view source_now).list size new.tells same sized;
     stated = stated_then version (view source).states (view source_now).at_hand new.stated at;
   }
   asked_now source source_now (Err why) same given quiet cause unmoved sized at once = λ list version new. record {
-    asked = record { first = view source; fresh = new.fresh; unasked = new.unasked; once = once };
+    asked = asked_first (view source).calls (view source_now).calls (Call.Size (Err why)) new.uncalled once;
     cause = subst (λ c. TroubleHasCause c (view source_now).counts why) new.fresh cause;
     given = subst (λ c. GaveNothing c (view source_now).counts) new.fresh given;
     unmoved = unmoved;

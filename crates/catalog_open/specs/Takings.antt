@@ -8,7 +8,7 @@ use Rattle.source_api.specs.declared.ledger.PlaceCounts.{PlaceCounts}
 use Rattle.source_api.specs.declared.source.Trouble.{Trouble}
 use Rattle.source_api.specs.declared.source.FailKind.TheVariants.{Memory}
 use Rattle.source_api.specs.declared.source.Trouble.TheVariants.{Fail}
-use Rattle.source_api.specs.Calls.{Call, with_call}
+use Rattle.source_api.specs.Calls.{Call, IsUncalled}
 use Rattle.source_api.specs.Counting.{GaveNothing, IsNoMove, TroubleHasCause, no_counts}
 use Rattle.source_api.specs.Places.{CountsTakes, SameAtEach, SameElsewhere, counts_taken, put_back_at}
 use Rattle.catalog_text.specs.Catalog.{Listed as Entry}
@@ -54,16 +54,13 @@ pub record SameShelf (before now : ShelfView) : Type 0 where
 -- a new source of a place of which a list and a version are told
 pub record IsNew (list : Option (List Row)) (version : Option ℕ) (source : SourceView) : Type 0 where
   pub fresh : source.counts ≡ no_counts
-  pub unasked : source.at_hand ≡ 0
+  pub uncalled : IsUncalled source.calls
   pub tells : IfSome list (λ rows. source.list ≡ Some rows)
   pub stated : IfSome version (λ told. source.states ≡ Some told)
 
--- a source that was new was asked for its size, exactly once, and answered so
-pub record IsAskedOnce (answer : Result ℕ Trouble) (source : SourceView) : Type 0 where
-  pub first : SourceView
-  pub fresh : first.counts ≡ no_counts
-  pub unasked : first.at_hand ≡ 0
-  pub once : source.calls ≡ with_call (Call.Size answer) first.calls
+-- a source was asked for its size, exactly once and for nothing else, and answered so
+abbrev pub IsAskedOnce : Result ℕ Trouble → SourceView → Type 0
+IsAskedOnce answer source = IfSome source.calls (λ calls. calls ≡ Call.Size answer ∷ [])
 
 -- it answered with this size
 pub record IsSized (list : Option (List Row)) (version : Option ℕ) (source : SourceView) (size : ℕ) : Type 0 where

@@ -1,5 +1,5 @@
 -- The calls that were made of a source, in their order, each with what it answered.
-use Rattle.std.specs.Prelude.{ℕ, Option, Some, None, List, [], ◌∷◌, ◌++◌}
+use Rattle.std.specs.Prelude.{◌≡◌, ℕ, Option, Some, None, IfSome, List, [], ◌∷◌, ◌++◌}
 use Rattle.std.specs.declared.result.Result.{Result}
 use Rattle.ranked_list.specs.declared.row.Row.{Row}
 use Rattle.source_api.specs.declared.source.Trouble.{Trouble}
@@ -15,3 +15,7 @@ pub data Call : Type 0 where
 abbrev pub with_call : Call → Option (List Call) → Option (List Call)
 with_call call None = None
 with_call call (Some calls) = Some (calls ++ call ∷ [])
+
+-- no call was made of a source, where it tells them
+abbrev pub IsUncalled : Option (List Call) → Type 0
+IsUncalled calls = IfSome calls (λ made. made ≡ [])

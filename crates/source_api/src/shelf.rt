@@ -3,6 +3,7 @@
 ghost use Rattle.std.specs.Prelude.{◌≡◌, ◌≤◌, true, ℕ, Bool, List, Option, Some, vec_len, IfOk, IfErr, IfSome, OnOk, OnErr};
 ghost use Rattle.ranked_list.specs.declared.row.Row.{Row as RowOf};
 ghost use Rattle.source_api.specs.declared.ledger.PlaceCounts.{PlaceCounts as PlaceCountsOf};
+ghost use Rattle.source_api.specs.Calls.{IsUncalled};
 ghost use Rattle.source_api.specs.Counting.{no_counts};
 ghost use Rattle.source_api.specs.Places.{SameAtEach, SameElsewhere, CountsTexts, CountsTakes, HasTextCause, HasTakeCause, counts_taken, put_back_at, text_limit};
 
@@ -59,6 +60,7 @@ pub trait Shelf {
         ensures cause { IfErr result (HasTakeCause (at self.old place.now) (at self.new place.now)) }
         ensures fresh { IfOk result (λ item. Self.Item.counts item ≡ no_counts) }
         ensures unasked { IfOk result (λ item. Self.Item.at_hand item ≡ 0) }
+        ensures uncalled { IfOk result (λ item. IsUncalled (Self.Item.calls item)) }
         ensures version { IfOk result (λ item. IfSome (versions self.old place.now) (λ told. Self.Item.states item ≡ Some told)) }
         ensures list { IfOk result (λ item. IfSome (lists self.old place.now) (λ told. Self.Item.list item ≡ Some told)) }
         ensures knows { OnOk result (knows self.new place.now ≡ true) };

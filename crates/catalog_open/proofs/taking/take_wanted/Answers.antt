@@ -16,7 +16,7 @@ returns-in-Ok g c =
     took_one view c.args.wanted c.args.place.now before now c.in-Ok.source c.if-not-wanted.false
     (record { texts = c.take.ensures.texts; lists = c.take.ensures.lists; versions = c.take.ensures.versions; known = c.take.ensures.known })
     c.take.ensures.elsewhere c.in-Ok.ensures.taken
-    (record { fresh = c.in-Ok.ensures.fresh; unasked = c.in-Ok.ensures.unasked; tells = c.in-Ok.ensures.list; stated = c.in-Ok.ensures.version })
+    (record { fresh = c.in-Ok.ensures.fresh; uncalled = c.in-Ok.ensures.uncalled; tells = c.in-Ok.ensures.list; stated = c.in-Ok.ensures.version })
     c.in-Ok.ensures.knows
 
 pub returns-in-Err : goal.returns-in-Err
