@@ -16,7 +16,7 @@ import threading
 import time
 from collections.abc import Callable, Iterator
 
-from machine import SECONDS, free_port, needs, over_network, path_of
+from machine import SECONDS, free_port, needs, no_files, number_in, over_network, path_of
 from support import Listening, catalog, ended, received, run, write, write_lists
 
 ROWS = 10_000
@@ -138,6 +138,22 @@ def few_descriptors(program: str) -> str | None:
     return wrong if bad is None else f"client {bad}: {replies[bad][:200]!r}"
 
 
+def long_queue(program: str) -> str | None:
+    """A thousand clients that come at once have each a place at a server that is busy, or as many as the system
+    allows."""
+    count = min(1000, number_in("/proc/sys/net/core/somaxconn") or 0)
+    needs(no_files(2 * count))
+    with begun(program, ["serve", "catalog.csv", "--workers", "1"], 2 * count) as (port, _), \
+            contextlib.ExitStack() as held:
+        held.enter_context(connected(port))
+        for number in range(count):
+            try:
+                held.enter_context(socket.create_connection(("127.0.0.1", port), 0.9))
+            except (TimeoutError, socket.timeout):
+                return f"client {number} of {count} has no place"
+    return None
+
+
 def slowly(port: int, head: str) -> bytes:
     """The reply to a request with a body, read slowly through a small buffer, while the body is still being sent."""
     with socket.socket() as link:
@@ -250,5 +266,5 @@ def tests() -> Iterator[tuple[str, Callable[[str], str | None]]]:
         yield f"port_edge_passes_{error}", over_network(functools.partial(passed_over, error=error))
     for error in ENDING:
         yield f"port_edge_ends_{error}", over_network(functools.partial(gives_up, error=error))
-    for test in (few_descriptors, whole_replies, client_that_stays, both_families, host_looked_up_once):
+    for test in (few_descriptors, long_queue, whole_replies, client_that_stays, both_families, host_looked_up_once):
         yield f"port_edge_{test.__name__}", over_network(test)

@@ -4,9 +4,11 @@ ghost use Rattle.std.specs.Prelude.{◌≡◌};
 
 use super::accepting::accept_next;
 use super::{Failed, NetLink, Port};
+use libc::net::listen;
 use std::io;
 use std::marker::Model;
 use std::net::{IpAddr, Ipv4Addr, Ipv6Addr, Net, SocketAddr, TcpListener, TcpStream};
+use std::os::fd::AsRawFd;
 use std::time::Clock;
 
 /// What listens to the outside at one address. It tells no links, and never ends. Contracts see it as its
@@ -114,17 +116,29 @@ fn bind_at<R: Net<Listener = TcpListener, Stream = TcpStream>>(
     address: IpAddr,
     number: u16,
 ) -> io::Result<TcpListener> {
-    let asked = TcpListener::bind(net, SocketAddr::new(address, number));
+    let asked = listen_at(net, address, number);
     if address != IpAddr::V6(Ipv6Addr::UNSPECIFIED) {
         return asked;
     }
     let every = IpAddr::V4(Ipv4Addr::UNSPECIFIED);
     let Ok(both) = asked else {
-        return TcpListener::bind(net, SocketAddr::new(every, number));
+        return listen_at(net, every, number);
     };
     let number = both.local_addr()?.port();
-    match TcpListener::bind(net, SocketAddr::new(every, number)) {
+    match listen_at(net, every, number) {
         Ok(apart) => Ok(apart),
         Err(_) => Ok(both),
     }
+}
+
+/// A listener whose queue is as long as the system allows. std makes it 128 long; a further call makes it longer, or
+/// leaves it as it is.
+fn listen_at<R: Net<Listener = TcpListener, Stream = TcpStream>>(
+    net: &R,
+    address: IpAddr,
+    number: u16,
+) -> io::Result<TcpListener> {
+    let listener = TcpListener::bind(net, SocketAddr::new(address, number))?;
+    listen(listener.as_raw_fd(), i32::MAX);
+    Ok(listener)
 }
