@@ -395,40 +395,40 @@ module _ (pool : List TableId) (tickets : TableId) (settings : Settings) (counts
       closing_shut pool settings source (slice_index counts source) (slot_at before source) (slot_at after source) (feed_at feeds source) (hold_at pass source).pass.1 (state_at states source) (closes source l)
 
   -- a worker that has worked, with what it left
-  abbrev Hand : Type 0
-  Hand = (w : Worker) × HasLeft pool tickets counts readies w
+  abbrev WorkerHandle : Type 0
+  WorkerHandle = (w : Worker) × HasLeft pool tickets counts readies w
 
-  all_hands : (hands : List Hand) × (map (λ (y : Hand). y.0) hands ≡ workers)
-  all_hands = with_all (HasLeft pool tickets counts readies) workers h.left
+  all_handles : (handles : List WorkerHandle) × (map (λ (y : WorkerHandle). y.0) handles ≡ workers)
+  all_handles = with_all (HasLeft pool tickets counts readies) workers h.left
 
-  abbrev hands : List Hand
-  hands = all_hands.0
+  abbrev handles : List WorkerHandle
+  handles = all_handles.0
 
-  abbrev runs_by : Hand → List Run
+  abbrev runs_by : WorkerHandle → List Run
   runs_by y = y.1.at_work.worked.runs
 
   -- all runs, worker by worker
   abbrev runs : List Run
-  runs = flat_map runs_by hands
+  runs = flat_map runs_by handles
 
-  pass_of : (y : Hand) → Contains hands y → Contains (passes workers) y.0.pass
+  pass_of : (y : WorkerHandle) → Contains handles y → Contains (passes workers) y.0.pass
   pass_of y c =
-      contains_map (λ (w : Worker). w.pass) workers y.0 (subst (λ (ws : List Worker). Contains ws y.0) all_hands.1 (contains_map (λ (z : Hand). z.0) hands y c))
+      contains_map (λ (w : Worker). w.pass) workers y.0 (subst (λ (ws : List Worker). Contains ws y.0) all_handles.1 (contains_map (λ (z : WorkerHandle). z.0) handles y c))
 
-  hand_of : (other : List Hold) → Contains (passes workers) other → (y : Hand) × Contains hands y × (y.0.pass ≡ other)
-  hand_of other c =
+  handle_of : (other : List Hold) → Contains (passes workers) other → (y : WorkerHandle) × Contains handles y × (y.0.pass ≡ other)
+  handle_of other c =
       let one = contains_map_from (λ (w : Worker). w.pass) workers other c in
-      let y = contains_map_from (λ (z : Hand). z.0) hands one.0 (subst (λ (ws : List Worker). Contains ws one.0) (sym all_hands.1) one.1) in
+      let y = contains_map_from (λ (z : WorkerHandle). z.0) handles one.0 (subst (λ (ws : List Worker). Contains ws one.0) (sym all_handles.1) one.1) in
       (y.0, y.1, ap (λ (w : Worker). w.pass) y.2 ∙ one.2)
 
   -- a worker's pass
-  ahead : (y : Hand) → Contains hands y → (source : ℕ) → source < length counts → IsAhead (hold_at y.0.pass source).pass.1 (state_at states source)
+  ahead : (y : WorkerHandle) → Contains handles y → (source : ℕ) → source < length counts → IsAhead (hold_at y.0.pass source).pass.1 (state_at states source)
   ahead y c source s =
       ahead_at pool settings source (slice_index counts source) (slot_at before source) (slot_at after source) (feed_at feeds source) (hold_at pass source).pass.1
       (hold_at y.0.pass source).pass.1 (state_at states source) (closes source s) (h.rejoins.knows y.0.pass (pass_of y c) source (there source s)) (y.1.name source s)
 
   -- a worker's runs, over the closing states
-  run_over : (y : Hand) → Contains hands y → (run : Run) → IsRunOf y.0.pass readies run → IsRunOver states readies run
+  run_over : (y : WorkerHandle) → Contains handles y → (run : Run) → IsRunOf y.0.pass readies run → IsRunOver states readies run
   run_over y c run is =
       let size = h.base_is.size in
       let own = y.1.at_work.own.size in
@@ -449,7 +449,7 @@ module _ (pool : List TableId) (tickets : TableId) (settings : Settings) (counts
       }
 
   runs_over : All (IsRunOver states readies) runs
-  runs_over = all_in runs_by (IsRunOver states readies) hands (λ y c i d l. run_over y c (slice_index_or (runs_by y) i d) (y.1.at_work.worked.each i d l))
+  runs_over = all_in runs_by (IsRunOver states readies) handles (λ y c i d l. run_over y c (slice_index_or (runs_by y) i d) (y.1.at_work.worked.each i d l))
 
   over_in : (run : Run) → Contains runs run → IsRunOver states readies run
   over_in run c = member_of_all (IsRunOver states readies) runs run runs_over c
@@ -457,11 +457,11 @@ module _ (pool : List TableId) (tickets : TableId) (settings : Settings) (counts
   -- no place has two runs
   once : (number : ℕ) → times number (places_of runs) ≤ 1
   once number =
-      let all = times_in runs_by (λ (run : Run). run.place) number hands in
-      let each = sum_by-le-sum_by (λ (y : Hand). times number (places_of (runs_by y))) (λ (y : Hand). times number y.0.draws.1.drawn) hands (λ y. y.1.at_work.worked.drawn number) in
-      let drew : sum_by (λ (y : Hand). times number y.0.draws.1.drawn) hands ≡ sum_by (λ (w : Worker). times number w.draws.1.drawn) workers =
-      sym (sum_by_map (λ (y : Hand). y.0) (λ (w : Worker). times number w.draws.1.drawn) hands) ∙ ap (sum_by (λ (w : Worker). times number w.draws.1.drawn)) all_hands.1 in
-      once_by (times number (places_of runs)) (sum_by (λ (y : Hand). times number (places_of (runs_by y))) hands) (sum_by (λ (y : Hand). times number y.0.draws.1.drawn) hands)
+      let all = times_in runs_by (λ (run : Run). run.place) number handles in
+      let each = sum_by-le-sum_by (λ (y : WorkerHandle). times number (places_of (runs_by y))) (λ (y : WorkerHandle). times number y.0.draws.1.drawn) handles (λ y. y.1.at_work.worked.drawn number) in
+      let drew : sum_by (λ (y : WorkerHandle). times number y.0.draws.1.drawn) handles ≡ sum_by (λ (w : Worker). times number w.draws.1.drawn) workers =
+      sym (sum_by_map (λ (y : WorkerHandle). y.0) (λ (w : Worker). times number w.draws.1.drawn) handles) ∙ ap (sum_by (λ (w : Worker). times number w.draws.1.drawn)) all_handles.1 in
+      once_by (times number (places_of runs)) (sum_by (λ (y : WorkerHandle). times number (places_of (runs_by y))) handles) (sum_by (λ (y : WorkerHandle). times number y.0.draws.1.drawn) handles)
       (sum_by (λ (w : Worker). times number w.draws.1.drawn) workers) all each drew (h.once number)
 
   -- how the query of each place stood, if it began
@@ -494,10 +494,10 @@ module _ (pool : List TableId) (tickets : TableId) (settings : Settings) (counts
       let here : 0 + run.place ≡ run.place = omega arith in
       begun_has stood run.stood (subst (Contains stood) (ap stood_at here ∙ run_stands run c) has)
 
-  within : (y : Hand) → Contains hands y → (q : RunningQuery) → Contains (stood_of (runs_by y)) q → Contains those q
+  within : (y : WorkerHandle) → Contains handles y → (q : RunningQuery) → Contains (stood_of (runs_by y)) q → Contains those q
   within y c q is =
       let run = contains_map_from (λ (run : Run). run.stood) (runs_by y) q is in
-      subst (Contains those) run.2 (run_began run.0 (has_in runs_by hands y run.0 c run.1))
+      subst (Contains those) run.2 (run_began run.0 (has_in runs_by handles y run.0 c run.1))
 
   -- the counts and lists of the slots, as a run has them
   counts_before : (source : ℕ) → source < length counts → counts_at (map (λ (slot : SlotState). slot.counts) before) source ≡ (slot_at before source).counts
@@ -513,7 +513,7 @@ module _ (pool : List TableId) (tickets : TableId) (settings : Settings) (counts
   told_before source s = map_at (λ (slot : SlotState). slot.told) before source _ _ (let e = h.slots.0 in omega (arith, s, e))
 
   -- the greatest depth that was wanted
-  wanted_by : (source depth : ℕ) (y : Hand) → Contains hands y → IsWantedBy (stood_of (runs_by y)) source depth → IsWantedBy those source depth
+  wanted_by : (source depth : ℕ) (y : WorkerHandle) → Contains handles y → IsWantedBy (stood_of (runs_by y)) source depth → IsWantedBy those source depth
   wanted_by source depth y c (inl none) = inl none
   wanted_by source depth y c (inr one) = inr (one.0, within y c one.0 one.1, one.2)
 
@@ -521,7 +521,7 @@ module _ (pool : List TableId) (tickets : TableId) (settings : Settings) (counts
   high_by source s = elim (h.rejoins.high source (there source s)) [
     | inl same ↦ inl (same ∙ h.base_is.high source s)
     | inr one ↦
-        let y = hand_of one.0 one.1 in
+        let y = handle_of one.0 one.1 in
         subst (IsWantedBy those source) (sym (one.2 ∙ ap (λ (p : List Hold). (hold_at p source).pass.1.high) (sym y.2)))
         (wanted_by source (hold_at y.0.0.pass source).pass.1.high y.0 y.1 (y.0.1.at_work.worked.did source).rows)
   ]
@@ -538,7 +538,7 @@ module _ (pool : List TableId) (tickets : TableId) (settings : Settings) (counts
   mine_by source object s c = elim (h.rejoins.mine source (there source s) object c) [
     | inl base ↦ absurd (contains_nil object (subst (λ os. Contains os object) (h.base_is.mine source s) base))
     | inr one ↦
-        let y = hand_of one.0 one.1 in
+        let y = handle_of one.0 one.1 in
         let named = (y.0.1.at_work.worked.did source).mine object (subst (λ (p : List Hold). Contains (hold_at p source).pass.1.mine object) (sym y.2) one.2) in
         (named.0, within y.0 y.1 named.0 named.1, named.2)
   ]
@@ -603,17 +603,17 @@ module _ (pool : List TableId) (tickets : TableId) (settings : Settings) (counts
 
   -- the queries that are refused for a fail of a kind, of which each worker was shown so many
   few_refused : (what : FailKind) (source number : ℕ)
-      → ((y : Hand) → Contains hands y → min (count_by (is_refused_for what source) (stood_of (runs_by y))) last_count ≤ number)
+      → ((y : WorkerHandle) → Contains handles y → min (count_by (is_refused_for what source) (stood_of (runs_by y))) last_count ≤ number)
       → length those ≤ length readies → count_by (is_refused_for what source) those ≤ settings.workers * number
   few_refused what source number each short =
       let test = is_refused_for what source in
-      let all = few_in runs_by (λ (run : Run). run.stood) test last_count number hands each in
+      let all = few_in runs_by (λ (run : Run). run.stood) test last_count number handles each in
       let some = rows_count (λ (run : Run). run.place) (λ (run : Run). run.stood) test 0 readies runs in
       let those_few = count_by-le-length test those in
       let few = h.few in
-      let total : count_by test those ≤ length hands * number =
-      few_by (count_by test those) (count_by test (stood_of runs)) last_count (length hands * number) (length those) all some those_few (omega (arith, few, short)) in
-      let many : length hands ≡ settings.workers = sym (length-map hands (λ (y : Hand). y.0)) ∙ (ap length all_hands.1 ∙ h.size) in
+      let total : count_by test those ≤ length handles * number =
+      few_by (count_by test those) (count_by test (stood_of runs)) last_count (length handles * number) (length those) all some those_few (omega (arith, few, short)) in
+      let many : length handles ≡ settings.workers = sym (length-map handles (λ (y : WorkerHandle). y.0)) ∙ (ap length all_handles.1 ∙ h.size) in
       subst (λ n. count_by test those ≤ n * number) many total
 
   -- with how each query ended, in their order
@@ -622,13 +622,13 @@ module _ (pool : List TableId) (tickets : TableId) (settings : Settings) (counts
       (gathered : places ≡ map Some endings) (size : length places ≡ length readies) where
     kept : flat_map (λ (w : Worker). w.ended.items) workers ≡ ended_of runs
     kept =
-        ap (flat_map (λ (w : Worker). w.ended.items)) (sym all_hands.1)
-        ∙ (flat_map-map (λ (w : Worker). w.ended.items) (λ (y : Hand). y.0) hands ∙ (flat_same hands ∙ kept_in runs_by hands))
+        ap (flat_map (λ (w : Worker). w.ended.items)) (sym all_handles.1)
+        ∙ (flat_map-map (λ (w : Worker). w.ended.items) (λ (y : WorkerHandle). y.0) handles ∙ (flat_same handles ∙ kept_in runs_by handles))
       where
-        flat_same : (ys : List Hand) → flat_map (λ (y : Hand). y.0.ended.items) ys ≡ flat_map (λ (y : Hand). ended_of (runs_by y)) ys
+        flat_same : (ys : List WorkerHandle) → flat_map (λ (y : WorkerHandle). y.0.ended.items) ys ≡ flat_map (λ (y : WorkerHandle). ended_of (runs_by y)) ys
         flat_same [] = refl
         flat_same (y ∷ ys) =
-            ap (λ es. es ++ flat_map (λ (z : Hand). z.0.ended.items) ys) y.1.at_work.worked.ended ∙ ap (λ es. ended_of (runs_by y) ++ es) (flat_same ys)
+            ap (λ es. es ++ flat_map (λ (z : WorkerHandle). z.0.ended.items) ys) y.1.at_work.worked.ended ∙ ap (λ es. ended_of (runs_by y) ++ es) (flat_same ys)
 
     long : length endings ≡ length readies
     long = sym (length-map endings Some) ∙ (ap length (sym gathered) ∙ size)

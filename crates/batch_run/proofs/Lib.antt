@@ -4,8 +4,8 @@ pub mod LendLaws
 pub mod Zips
 pub mod AtPlaces
 pub mod WorkLaws
--- Lemmas on who has passes to the posts, and on what was served at a slot.
-pub mod HandLaws
+-- Lemmas on who has passes to the slot table, and on what was served at a slot.
+pub mod HandleLaws
 -- Lemmas on a crew: its workers, what the fetchers did of the slots, and passes that are joined.
 pub mod CrewLaws
 pub mod SlotLaws

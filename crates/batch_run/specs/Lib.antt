@@ -2,8 +2,8 @@
 pub mod Slots
 -- What workers and fetchers do.
 pub mod Working
--- What workers leave that have passes to the posts.
-pub mod Handing
+-- What workers leave that have passes to the slot table.
+pub mod Handles
 -- What a crew of workers and fetchers is, before it runs and after it.
 pub mod Crews
 -- What comes of a crew that has run.

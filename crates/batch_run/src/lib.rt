@@ -7,7 +7,7 @@
 #![tactic(auto)]
 
 mod finish;
-mod hands;
+mod handles;
 mod hire;
 mod joining;
 mod lending;
@@ -16,7 +16,7 @@ mod sides;
 mod work;
 
 pub use batch_result::{Batch, Settings, Use};
-pub use hands::Hands;
+pub use handles::WorkerHandles;
 pub use hire::Crew;
 pub use lending::{lend, take_back};
 pub use query_run::{Ended, Memory};

@@ -4,16 +4,16 @@ ghost use Rattle.std.specs.Prelude.{◌≡◌, ◌≤◌, ◌<◌, ◌^◌, All,
 ghost use Rattle.topk_base.specs.Ranges.{AreSettings};
 ghost use Rattle.fetcher.specs.Metering.{nothing};
 ghost use Rattle.keyed_lock.specs.Hold.{share_of};
-ghost use Rattle.fetcher.specs.Posting.{ArePosts};
+ghost use Rattle.fetcher.specs.SlotTables.{IsSlotTable};
 ghost use Rattle.batch_run.specs.Working.{IsAtWork, AllWorked};
 ghost use Rattle.batch_run.specs.Slots.{HasFeeder, AllFetch};
-ghost use Rattle.batch_run.specs.Handing.{AllHands};
+ghost use Rattle.batch_run.specs.Handles.{AllHandles};
 
-use super::hands::{Hands, make_room};
+use super::handles::{WorkerHandles, make_room};
 use super::work::{Worker, work};
 use batch_result::Settings;
-use fetcher::{Posts, Slot, serve_loop};
-use keyed_lock::{Hand, Pass};
+use fetcher::{Slot, SlotTable, serve_loop};
+use keyed_lock::{Pass, WorkerHandle};
 use query_core::Ready;
 use source_api::Source;
 use source_pool::Pool;
@@ -28,13 +28,13 @@ fn fetch_all<W: Threads + Wait + Sync, S: Source>(
     rt: &W,
     alloc: Global,
     pool: &Pool,
-    posts: &Posts<S>,
+    table: &SlotTable<S>,
     fetchers: &mut [Pass<Slot<S>>],
 )
-    requires posts { ArePosts posts.now pool.now }
-    requires shares { All (λ own. own ≡ share_of posts.now.lock 1) fetchers.old }
+    requires table { IsSlotTable table.now pool.now }
+    requires shares { All (λ own. own ≡ share_of table.now.lock 1) fetchers.old }
     requires many { length fetchers.old ≡ length pool.now }
-    ensures shares { All (λ own. own ≡ share_of posts.now.lock 1) fetchers.new }
+    ensures shares { All (λ own. own ≡ share_of table.now.lock 1) fetchers.new }
     ensures size { length fetchers.new ≡ length fetchers.old }
 {
     let threads = fetchers.len().max(1);
@@ -43,8 +43,8 @@ fn fetch_all<W: Threads + Wait + Sync, S: Source>(
         fetchers,
         threads,
         &|place, own: &mut Pass<Slot<S>>|
-            requires { ArePosts posts.now pool.now × (place < length pool.now) × (own.now ≡ share_of posts.now.lock 1) }
-        { serve_loop(rt, alloc, pool, posts, own, place) },
+            requires { IsSlotTable table.now pool.now × (place < length pool.now) × (own.now ≡ share_of table.now.lock 1) }
+        { serve_loop(rt, alloc, pool, table, own, place) },
     );
 }
 
@@ -53,62 +53,62 @@ fn work_all<W: Threads + Wait + Sync, S: Source>(
     rt: &W,
     alloc: Global,
     pool: &Pool,
-    posts: &Posts<S>,
+    table: &SlotTable<S>,
     tickets: &Tickets,
-    hands: &mut [Hand<Worker, Slot<S>>],
+    handles: &mut [WorkerHandle<Worker, Slot<S>>],
     queries: &[Ready],
 )
-    requires posts { ArePosts posts.now pool.now }
-    requires workers { All (λ hand. IsAtWork pool.now tickets.now queries.now hand.worker) hands.old }
-    requires shares { All (λ hand. hand.pass ≡ share_of posts.now.lock 1) hands.old }
-    ensures { AllHands pool.now tickets.now queries.now hands.old hands.new }
+    requires table { IsSlotTable table.now pool.now }
+    requires workers { All (λ handle. IsAtWork pool.now tickets.now queries.now handle.worker) handles.old }
+    requires shares { All (λ handle. handle.pass ≡ share_of table.now.lock 1) handles.old }
+    ensures { AllHandles pool.now tickets.now queries.now handles.old handles.new }
 {
-    let threads = hands.len().max(1);
+    let threads = handles.len().max(1);
     thread::for_each_mut(
         rt,
-        hands,
+        handles,
         threads,
-        &|_, hand: &mut Hand<Worker, Slot<S>>|
-            requires { ArePosts posts.now pool.now × IsAtWork pool.now tickets.now queries.now hand.now.worker × (hand.now.pass ≡ share_of posts.now.lock 1) }
-        { work(rt, alloc, pool, posts, tickets, hand, queries) },
+        &|_, handle: &mut WorkerHandle<Worker, Slot<S>>|
+            requires { IsSlotTable table.now pool.now × IsAtWork pool.now tickets.now queries.now handle.now.worker × (handle.now.pass ≡ share_of table.now.lock 1) }
+        { work(rt, alloc, pool, table, tickets, handle, queries) },
     );
-    posts.stop.set(pool);
-    posts.wake_all();
+    table.stop.set(pool);
+    table.wake_all();
 }
 
-/// Both sides at the same time, over the posts. The fetchers end after the workers.
-fn run_posts<W: Threads + Wait + Sync, S: Source>(
+/// Both sides at the same time, over the slot table. The fetchers end after the workers.
+fn run_over<W: Threads + Wait + Sync, S: Source>(
     rt: &W,
     alloc: Global,
     pool: &Pool,
-    posts: &Posts<S>,
+    table: &SlotTable<S>,
     tickets: &Tickets,
-    hands: &mut Hands<S>,
+    handles: &mut WorkerHandles<S>,
     queries: &[Ready],
 )
-    requires posts { ArePosts posts.now pool.now }
-    requires workers { All (λ hand. IsAtWork pool.now tickets.now queries.now hand.worker) hands.old.workers.items }
-    requires shares { All (λ hand. hand.pass ≡ share_of posts.now.lock 1) hands.old.workers.items }
-    requires fetchers { All (λ own. own ≡ share_of posts.now.lock 1) hands.old.fetchers.items }
-    requires many { vec_len hands.old.fetchers ≡ length pool.now }
-    ensures worked { AllHands pool.now tickets.now queries.now hands.old.workers.items hands.new.workers.items }
-    ensures fetchers { All (λ own. own ≡ share_of posts.now.lock 1) hands.new.fetchers.items }
-    ensures many { vec_len hands.new.fetchers ≡ vec_len hands.old.fetchers }
+    requires table { IsSlotTable table.now pool.now }
+    requires workers { All (λ handle. IsAtWork pool.now tickets.now queries.now handle.worker) handles.old.workers.items }
+    requires shares { All (λ handle. handle.pass ≡ share_of table.now.lock 1) handles.old.workers.items }
+    requires fetchers { All (λ own. own ≡ share_of table.now.lock 1) handles.old.fetchers.items }
+    requires many { vec_len handles.old.fetchers ≡ length pool.now }
+    ensures worked { AllHandles pool.now tickets.now queries.now handles.old.workers.items handles.new.workers.items }
+    ensures fetchers { All (λ own. own ≡ share_of table.now.lock 1) handles.new.fetchers.items }
+    ensures many { vec_len handles.new.fetchers ≡ vec_len handles.old.fetchers }
 {
-    let Hands { workers, fetchers } = hands;
+    let WorkerHandles { workers, fetchers } = handles;
     thread::join_mut(
         rt,
         &mut ||
-            requires { ArePosts posts.now pool.now × All (λ own. own ≡ share_of posts.now.lock 1) fetchers.now.items × (vec_len fetchers.now ≡ length pool.now) }
-        { fetch_all(rt, alloc, pool, posts, fetchers) },
+            requires { IsSlotTable table.now pool.now × All (λ own. own ≡ share_of table.now.lock 1) fetchers.now.items × (vec_len fetchers.now ≡ length pool.now) }
+        { fetch_all(rt, alloc, pool, table, fetchers) },
         &mut ||
-            requires { ArePosts posts.now pool.now × All (λ hand. IsAtWork pool.now tickets.now queries.now hand.worker) workers.now.items
-                × All (λ hand. hand.pass ≡ share_of posts.now.lock 1) workers.now.items }
-        { work_all(rt, alloc, pool, posts, tickets, workers, queries) },
+            requires { IsSlotTable table.now pool.now × All (λ handle. IsAtWork pool.now tickets.now queries.now handle.worker) workers.now.items
+                × All (λ handle. handle.pass ≡ share_of table.now.lock 1) workers.now.items }
+        { work_all(rt, alloc, pool, table, tickets, workers, queries) },
     );
 }
 
-/// The posts are opened, and both sides run over them. What a worker needs of a source, and no other thread fetches, it fetches
+/// The slot table is opened, and both sides run over it. What a worker needs of a source, and no other thread fetches, it fetches
 /// itself; the fetchers read ahead. Where memory runs out no query runs.
 pub fn run_sides<W: Threads + Wait + Sync, S: Source>(
     rt: &W,
@@ -129,19 +129,19 @@ pub fn run_sides<W: Threads + Wait + Sync, S: Source>(
     ensures fetched { AllFetch S.list S.counts S.at_hand pool.now settings slots.old.items slots.new.items }
     ensures worked { AllWorked pool.now tickets.now queries.now workers.old.items workers.new.items }
 {
-    let Ok(mut hands) = make_room::<S>(alloc, workers.len(), slots.len()) else {
+    let Ok(mut handles) = make_room::<S>(alloc, workers.len(), slots.len()) else {
         return;
     };
-    let Some((posts, mut pass)) = Posts::open(alloc, pool, slots, settings.page, settings.ahead)
+    let Some((table, mut pass)) = SlotTable::open(alloc, pool, slots, settings.page, settings.ahead)
     else {
         return;
     };
-    let sources = posts.bells.len();
-    let lock = &posts.lock;
-    lock.hand_out(&mut pass, workers, &mut hands.workers);
-    lock.split_all(&mut pass, &mut hands.fetchers, sources);
-    run_posts(rt, alloc, pool, &posts, tickets, &mut hands, queries);
-    lock.hand_in(&mut pass, &mut hands.workers, workers);
-    lock.join_all(&mut pass, &mut hands.fetchers);
-    posts.close(pass, slots);
+    let sources = table.bells.len();
+    let lock = &table.lock;
+    lock.hand_out(&mut pass, workers, &mut handles.workers);
+    lock.split_all(&mut pass, &mut handles.fetchers, sources);
+    run_over(rt, alloc, pool, &table, tickets, &mut handles, queries);
+    lock.hand_in(&mut pass, &mut handles.workers, workers);
+    lock.join_all(&mut pass, &mut handles.fetchers);
+    table.close(pass, slots);
 }

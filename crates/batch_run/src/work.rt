@@ -2,12 +2,12 @@
 
 ghost use Rattle.std.specs.Prelude.{◌≡◌, ◌<◌, length};
 ghost use Rattle.keyed_lock.specs.Hold.{share_of};
-ghost use Rattle.fetcher.specs.Posting.{ArePosts, MayServe};
+ghost use Rattle.fetcher.specs.SlotTables.{IsSlotTable, MayServe};
 ghost use Rattle.query_run.specs.Serving.{ServesAll};
 ghost use Rattle.batch_run.specs.Working.{IsAtWork, Worked};
 
-use fetcher::{Posts, Slot, serve_or_wait};
-use keyed_lock::{Hand, Pass};
+use fetcher::{Slot, SlotTable, serve_or_wait};
+use keyed_lock::{Pass, WorkerHandle};
 use query_core::Ready;
 use query_run::{Ended, run_query_by};
 use source_api::Source;
@@ -86,29 +86,29 @@ fn run_next<P, F: Fn(u32, u64, &mut P), G: Fn(u32) -> bool, H: Fn(u32)>(
     }
 }
 
-/// Runs queries, each time the next one that no worker has drawn, and takes turns at the posts itself. Where memory runs out it draws no more.
+/// Runs queries, each time the next one that no worker has drawn, and takes turns over the slot table itself. Where memory runs out it draws no more.
 pub(crate) fn work<W: Wait, S: Source>(
     rt: &W,
     alloc: Global,
     pool: &Pool,
-    posts: &Posts<S>,
+    table: &SlotTable<S>,
     tickets: &Tickets,
-    hand: &mut Hand<Worker, Slot<S>>,
+    handle: &mut WorkerHandle<Worker, Slot<S>>,
     queries: &[Ready],
 )
-    requires posts { ArePosts posts.now pool.now }
-    requires share { hand.old.pass ≡ share_of posts.now.lock 1 }
-    requires work { IsAtWork pool.now tickets.now queries.now hand.old.worker }
-    ensures worked { Worked pool.now tickets.now queries.now hand.old.worker hand.new.worker }
-    ensures pass { hand.new.pass ≡ hand.old.pass }
+    requires table { IsSlotTable table.now pool.now }
+    requires share { handle.old.pass ≡ share_of table.now.lock 1 }
+    requires work { IsAtWork pool.now tickets.now queries.now handle.old.worker }
+    ensures worked { Worked pool.now tickets.now queries.now handle.old.worker handle.new.worker }
+    ensures pass { handle.new.pass ≡ handle.old.pass }
 {
     let serve = |source: u32, _told: u64, pass: &mut Pass<Slot<S>>|
-        requires { MayServe posts.now pool.now pass.now × (source < length pool.now) }
+        requires { MayServe table.now pool.now pass.now × (source < length pool.now) }
         ensures { pass.exit.now ≡ pass.entry.now }
-    { serve_or_wait(rt, alloc, pool, posts, pass, source as usize) };
-    let far = |source: u32| posts.is_far(source as usize);
-    let wake = |source: u32| posts.wake_fetcher(source as usize);
-    let Hand { worker, pass } = hand;
+    { serve_or_wait(rt, alloc, pool, table, pass, source as usize) };
+    let far = |source: u32| table.is_far(source as usize);
+    let wake = |source: u32| table.wake_fetcher(source as usize);
+    let WorkerHandle { worker, pass } = handle;
     for _ in 0..queries.len() {
         let more = run_next(
             rt, alloc, pool, tickets, worker, queries, &serve, pass, &far, &wake,

@@ -10,4 +10,4 @@ mod ChainLaws
 pub mod ServeLaws
 pub mod ClosedLaws
 pub mod PlanLaws
-mod PostLaws
+mod SlotTableLaws

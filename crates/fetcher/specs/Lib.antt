@@ -6,4 +6,4 @@ pub mod Metering
 pub mod Chaining
 pub mod Telling
 pub mod Serving
-pub mod Posting
+pub mod SlotTables

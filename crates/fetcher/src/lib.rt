@@ -5,9 +5,9 @@
 
 mod fetch;
 mod laws;
-mod post;
-mod posts;
+mod serving;
 mod slot;
+mod slot_table;
 mod stop;
 mod turned;
 
@@ -16,9 +16,9 @@ pub use laws::{
     told_lists_neither_repeat_nor_clash, turns_tell_the_list, what_a_turn_gave_tells_its_plan,
     what_is_fetched_is_called_for,
 };
-pub use post::{Began, serve_turn};
-pub use posts::{Posts, serve_loop, serve_or_wait};
+pub use serving::{Began, serve_turn};
 pub use slot::Slot;
+pub use slot_table::{SlotTable, serve_loop, serve_or_wait};
 pub use source_state::reach;
 pub use stop::Stop;
 pub use turned::{Fetched, Turned};

@@ -137,7 +137,7 @@ module _ {V K : Type 0} (fact : K → ℕ → V → Type 0) where
   pub releases : (slots id place : ℕ) (key : K) (me : PassState V K) (y : V) → place < slots → 0 < me.0.hold.parts → me.0.hold.held ≡ Some place
       → me.1 ≡ (place, Some y) ∷ [] → KeepsFact fact me.0.hold place y
       → Allows (Ruled fact key) slots id me place (λ _. 0) (λ _. Releases (step slots place 0 0 slot.none) me 0)
-  releases slots id place key me y below live held hand kept s r sized at _ =
+  releases slots id place key me y below live held handle kept s r sized at _ =
       let v : View K = me.0 in
       let x = r.each id v at in
       let long = r.long in
@@ -153,7 +153,7 @@ module _ {V K : Type 0} (fact : K → ℕ → V → Type 0) where
       let taken : total (has_value place) s.views ≡ 1 = omega arith in
       let none_left : total (has_value place) (set s.views id w) ≡ 0 = omega arith in
       let out : get_elem? s.homes place ≡ some slot.none = subst (λ m. Home fact key place m (get_elem? s.homes place)) taken k.home in
-      let back : homes_after s.homes me.1 gives ≡ set s.homes place (some (Some y)) = ap (put_back s.homes) hand in (
+      let back : homes_after s.homes me.1 gives ≡ set s.homes place (some (Some y)) = ap (put_back s.homes) handle in (
         w,
         gives,
         tt,

@@ -2,4 +2,4 @@ pub mod Places
 mod Keeping
 mod Seating
 mod PassLaws
-mod HandLaws
+mod HandleLaws

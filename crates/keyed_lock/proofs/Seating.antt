@@ -14,7 +14,7 @@ use Rattle.keyed_lock.proofs.Places.{all_some, keep_of}
 use Rattle.keyed_lock.proofs.Keeping.{releases, splits, joins, opens, closes}
 
 module _ {V K : Type 0} (fact : K → ℕ → V → Type 0) where
-  -- the slot is in the hand, with the value
+  -- the slot is in the handle, with the value
   pub slot_found : (place : ℕ) (m m₁ : PassState V K) (n : ℕ) → Grabs fact (step 0 place 0 0 slot.none) m n m₁ → n ≡ 0
       → (r : Option V) × (m₁.1 ≡ (place, r) ∷ rest m₁.1)
   slot_found place m m₁ n g hit = let t = g.0 hit in

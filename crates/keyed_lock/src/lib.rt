@@ -2,7 +2,7 @@
 #![tactic(auto)]
 
 mod filling;
-mod hands;
+mod handles;
 mod hold;
 mod laws;
 mod lock;
@@ -12,7 +12,7 @@ mod rule;
 mod seat;
 mod view;
 
-pub use hands::Hand;
+pub use handles::WorkerHandle;
 pub use hold::Hold;
 pub use laws::parts_add_up;
 pub use lock::KeyedLock;

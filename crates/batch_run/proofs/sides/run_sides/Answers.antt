@@ -1,5 +1,5 @@
 use Rattle.std.proofs.Common.{rules, ap, refl, sym, ◌∙◌}
-use Rattle.batch_run.proofs.HandLaws.{all_fresh, all_idle, all_served, hands_begin, hands_end, none_fetched}
+use Rattle.batch_run.proofs.HandleLaws.{all_fresh, all_idle, all_served, handles_begin, handles_end, none_fetched}
 use Rattle.batch_run.proofs.sides.run_sides.Goals as goal
 
 pub open-requires-clause-fresh : goal.open-requires-clause-fresh
@@ -23,17 +23,17 @@ returns-in_default-open-clause-fetched g c =
 pub returns-clause-fetched : goal.returns-clause-fetched
 returns-clause-fetched g c =
     let began = c.in-Some.ensures.began in
-    all_served g.S.Source.list g.S.Source.counts g.S.Source.calls g.S.Source.at_hand g.S.Source.states c.in-Some.posts c.args.pool.now c.args.settings c.args.slots.now.items c.close.new.slots.items
-    c.in-Some.ensures.posts.0 began.0 began.1 (ap (λ v. v.items) began.2) c.close.ensures
+    all_served g.S.Source.list g.S.Source.counts g.S.Source.calls g.S.Source.at_hand g.S.Source.states c.in-Some.table c.args.pool.now c.args.settings c.args.slots.now.items c.close.new.slots.items
+    c.in-Some.ensures.table.0 began.0 began.1 (ap (λ v. v.items) began.2) c.close.ensures
 
-pub run_posts-requires-clause-workers : goal.run_posts-requires-clause-workers
-run_posts-requires-clause-workers g c κs within =
-    hands_begin c.args.pool.now c.args.tickets.now c.args.queries.now c.args.workers.now.items c.hand_out.new.hands.items c.hand_out.ensures.hands c.requires.workers
+pub run_over-requires-clause-workers : goal.run_over-requires-clause-workers
+run_over-requires-clause-workers g c κs within =
+    handles_begin c.args.pool.now c.args.tickets.now c.args.queries.now c.args.workers.now.items c.hand_out.new.handles.items c.hand_out.ensures.handles c.requires.workers
 
 pub close-requires-clause-size : goal.close-requires-clause-size
-close-requires-clause-size g c κs within = c.in-Some.ensures.posts.0.size ∙ sym c.in-Some.ensures.posts.0.many
+close-requires-clause-size g c κs within = c.in-Some.ensures.table.0.size ∙ sym c.in-Some.ensures.table.0.many
 
 pub returns-clause-worked : goal.returns-clause-worked
 returns-clause-worked g c =
-    hands_end c.args.pool.now c.args.tickets.now c.args.queries.now c.args.workers.now.items c.hand_in.new.workers.items c.hand_out.new.hands.items c.run_posts.new.hands.workers.items
-    c.hand_out.ensures.hands c.hand_in.ensures.workers c.run_posts.ensures.worked
+    handles_end c.args.pool.now c.args.tickets.now c.args.queries.now c.args.workers.now.items c.hand_in.new.workers.items c.hand_out.new.handles.items c.run_over.new.handles.workers.items
+    c.hand_out.ensures.handles c.hand_in.ensures.workers c.run_over.ensures.worked

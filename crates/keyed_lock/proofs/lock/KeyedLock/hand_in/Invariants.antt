@@ -3,14 +3,14 @@ use Rattle.std.specs.Prelude.{reverse}
 use Rattle.keyed_lock.specs.Hold.{share_of}
 use Rattle.keyed_lock.proofs.lock.KeyedLock.hand_in.Given as goal
 
-abbrev pub invariant-loop-hand : goal.invariant-loop-hand
-invariant-loop-hand g l = record {
+abbrev pub invariant-loop-handle : goal.invariant-loop-handle
+invariant-loop-handle g l = record {
   pass : l.pass ≡ share_of l.self (l.fn.pass.1.parts + vec_len l.workers);
-  workers : l.workers.items ++ map (λ hand. hand.worker) (reverse l.hands.items) ≡ map (λ hand. hand.worker) l.fn.hands.items;
-  shares : All (λ hand. hand.pass ≡ share_of l.self 1) l.hands.items;
-  many : vec_len l.workers + vec_len l.hands ≡ vec_len l.fn.hands;
-  room : vec_len l.fn.hands ≤ vec_capacity l.workers;
+  workers : l.workers.items ++ map (λ handle. handle.worker) (reverse l.handles.items) ≡ map (λ handle. handle.worker) l.fn.handles.items;
+  shares : All (λ handle. handle.pass ≡ share_of l.self 1) l.handles.items;
+  many : vec_len l.workers + vec_len l.handles ≡ vec_len l.fn.handles;
+  room : vec_len l.fn.handles ≤ vec_capacity l.workers;
 }
 
-abbrev pub decreases-loop-hand : goal.decreases-loop-hand
-decreases-loop-hand g l = vec_len l.hands
+abbrev pub decreases-loop-handle : goal.decreases-loop-handle
+decreases-loop-handle g l = vec_len l.handles

@@ -5,11 +5,11 @@ use Rattle.keyed_lock.proofs.lock.KeyedLock.hand_out.Given as goal
 
 abbrev pub invariant-loop-worker : goal.invariant-loop-worker
 invariant-loop-worker g l = record {
-  pass : l.pass ≡ share_of l.self (l.fn.pass.1.parts - vec_len l.hands);
-  hands : map (λ hand. hand.worker) l.hands.items ++ reverse l.workers.items ≡ l.fn.workers.items;
-  shares : All (λ hand. hand.pass ≡ share_of l.self 1) l.hands.items;
-  many : vec_len l.hands + vec_len l.workers ≡ vec_len l.fn.workers;
-  room : vec_len l.fn.workers ≤ vec_capacity l.hands;
+  pass : l.pass ≡ share_of l.self (l.fn.pass.1.parts - vec_len l.handles);
+  handles : map (λ handle. handle.worker) l.handles.items ++ reverse l.workers.items ≡ l.fn.workers.items;
+  shares : All (λ handle. handle.pass ≡ share_of l.self 1) l.handles.items;
+  many : vec_len l.handles + vec_len l.workers ≡ vec_len l.fn.workers;
+  room : vec_len l.fn.workers ≤ vec_capacity l.handles;
   kept : vec_capacity l.workers ≡ vec_capacity l.fn.workers;
 }
 

@@ -8,17 +8,17 @@ use crate::lock_invariant::LockInvariant;
 use crate::pass::Pass;
 
 /// Who works, with a pass of its own.
-pub struct Hand<W, V: LockInvariant> {
+pub struct WorkerHandle<W, V: LockInvariant> {
     /// Who works.
     pub worker: W,
     /// Its pass.
     pub pass: Pass<V>,
 }
 
-/// Written here, and not derived, so that a crate that lets a hand go calls this.
-impl<W: Drop, V: LockInvariant> Drop for Hand<W, V> {
+/// Written here, and not derived, so that a crate that lets a handle go calls this.
+impl<W: Drop, V: LockInvariant> Drop for WorkerHandle<W, V> {
     fn drop(self) {
-        let Hand {
+        let WorkerHandle {
             worker: _worker,
             pass: _pass,
         } = self;
@@ -31,22 +31,22 @@ impl<V: LockInvariant + Send + Drop> KeyedLock<V> {
         &self,
         pass: &mut Pass<V>,
         workers: &mut Vec<W>,
-        hands: &mut Vec<Hand<W, V>>,
+        handles: &mut Vec<WorkerHandle<W, V>>,
     )
         requires own { pass.old ≡ share_of self.now pass.old.1.parts }
         requires enough { vec_len workers.old < pass.old.1.parts }
-        requires none { hands.old.items ≡ [] }
-        requires room { vec_len workers.old ≤ vec_capacity hands.old }
+        requires none { handles.old.items ≡ [] }
+        requires room { vec_len workers.old ≤ vec_capacity handles.old }
         ensures pass { pass.new ≡ share_of self.now (pass.old.1.parts - vec_len workers.old) }
-        ensures hands { map (λ hand. hand.worker) hands.new.items ≡ workers.old.items }
-        ensures shares { All (λ hand. hand.pass ≡ share_of self.now 1) hands.new.items }
+        ensures handles { map (λ handle. handle.worker) handles.new.items ≡ workers.old.items }
+        ensures shares { All (λ handle. handle.pass ≡ share_of self.now 1) handles.new.items }
         ensures emptied { workers.new.items ≡ [] }
         ensures room { vec_capacity workers.new ≡ vec_capacity workers.old }
     {
         workers.reverse();
         while let Some(worker) = workers.pop() {
             let own = self.split(pass, 1);
-            hands.push_reserved(Hand { worker, pass: own });
+            handles.push_reserved(WorkerHandle { worker, pass: own });
         }
     }
 
@@ -54,19 +54,19 @@ impl<V: LockInvariant + Send + Drop> KeyedLock<V> {
     pub fn hand_in<W: Drop>(
         &self,
         pass: &mut Pass<V>,
-        hands: &mut Vec<Hand<W, V>>,
+        handles: &mut Vec<WorkerHandle<W, V>>,
         workers: &mut Vec<W>,
     )
         requires own { pass.old ≡ share_of self.now pass.old.1.parts }
-        requires shares { All (λ hand. hand.pass ≡ share_of self.now 1) hands.old.items }
+        requires shares { All (λ handle. handle.pass ≡ share_of self.now 1) handles.old.items }
         requires none { workers.old.items ≡ [] }
-        requires room { vec_len hands.old ≤ vec_capacity workers.old }
-        ensures pass { pass.new ≡ share_of self.now (pass.old.1.parts + vec_len hands.old) }
-        ensures workers { workers.new.items ≡ map (λ hand. hand.worker) hands.old.items }
+        requires room { vec_len handles.old ≤ vec_capacity workers.old }
+        ensures pass { pass.new ≡ share_of self.now (pass.old.1.parts + vec_len handles.old) }
+        ensures workers { workers.new.items ≡ map (λ handle. handle.worker) handles.old.items }
     {
-        hands.reverse();
-        while let Some(hand) = hands.pop() {
-            let (worker, own) = hand.into_parts();
+        handles.reverse();
+        while let Some(handle) = handles.pop() {
+            let (worker, own) = handle.into_parts();
             self.join(pass, own);
             workers.push_reserved(worker);
         }
@@ -100,12 +100,12 @@ impl<V: LockInvariant + Send + Drop> KeyedLock<V> {
     }
 }
 
-impl<W, V: LockInvariant> Hand<W, V> {
+impl<W, V: LockInvariant> WorkerHandle<W, V> {
     /// Who works, and its pass.
     fn into_parts(self) -> (W, Pass<V>)
         ensures { result ≡ (self.worker, self.pass) }
     {
-        let Hand { worker, pass } = self;
+        let WorkerHandle { worker, pass } = self;
         (worker, pass)
     }
 }

@@ -1,4 +1,4 @@
--- Turns at the posts of a run, and who may take them.
+-- Turns over the slot table of a run, and who may take them.
 use Rattle.std.specs.Prelude.{◌≡◌, ◌<◌, ℕ, Option, None, Some, List, length, vec_len}
 use Rattle.std.specs.List.{slice_index_or}
 use Rattle.ranked_list.specs.declared.row.Row.{Row}
@@ -9,22 +9,22 @@ use Rattle.source_api.specs.declared.counts.Counts.{Counts}
 use Rattle.source_api.specs.Calls.{Call}
 use Rattle.fetcher.specs.declared.slot.Slot.{Slot}
 use Rattle.fetcher.specs.Serving.{IsServed}
-use Rattle.fetcher.specs.declared.post.Began.{Began}
-use Rattle.fetcher.specs.declared.posts.Posts.{Posts}
+use Rattle.fetcher.specs.declared.serving.Began.{Began}
+use Rattle.fetcher.specs.declared.slot_table.SlotTable.{SlotTable}
 
--- the posts are those of the sources of this pool, in their order
-pub record ArePosts {S : Type 0} (posts : Posts S) (pool : List TableId) : Type 0 where
-  pub of : posts.lock.key.pool.value ≡ pool
-  pub page : posts.lock.key.page ≡ posts.page
-  pub ahead : posts.lock.key.ahead ≡ posts.ahead
-  pub size : posts.lock.size ≡ length pool
-  pub many : length posts.lock.key.slots.value.items ≡ length pool
-  pub bells : vec_len posts.bells ≡ length pool
+-- a slot table of a run: its slots are those of the sources of this pool, in their order
+pub record IsSlotTable {S : Type 0} (table : SlotTable S) (pool : List TableId) : Type 0 where
+  pub of : table.lock.key.pool.value ≡ pool
+  pub page : table.lock.key.page ≡ table.page
+  pub ahead : table.lock.key.ahead ≡ table.ahead
+  pub size : table.lock.size ≡ length pool
+  pub many : length table.lock.key.slots.value.items ≡ length pool
+  pub bells : vec_len table.bells ≡ length pool
 
--- who has this pass may take turns at the posts
-pub record MayServe {S : Type 0} (posts : Posts S) (pool : List TableId) (pass : TableId × Hold (Began S)) : Type 0 where
-  pub posts_are : ArePosts posts pool
-  pub own : IsPassOf posts.lock pass
+-- who has this pass may take turns over the slot table
+pub record MayServe {S : Type 0} (table : SlotTable S) (pool : List TableId) (pass : TableId × Hold (Began S)) : Type 0 where
+  pub table_is : IsSlotTable table pool
+  pub own : IsPassOf table.lock pass
   pub rests : pass.1.held ≡ None
 
 module _ {S : Type 0} (list : S → Option (List Row)) (counts : S → Counts) (calls : S → Option (List Call))

@@ -2,9 +2,9 @@
 
 ghost use Rattle.std.specs.Prelude.{◌≡◌, ◌<◌, ◌≤◌, ◌^◌, [], IfOk, IfSome, IfNone, length, vec_len, vec_capacity};
 ghost use Rattle.keyed_lock.specs.Hold.{all_parts, share_of};
-ghost use Rattle.fetcher.specs.Posting.{ArePosts, AreServed, MayServe};
+ghost use Rattle.fetcher.specs.SlotTables.{IsSlotTable, AreServed, MayServe};
 
-use super::post::{Began, serve_turn};
+use super::serving::{Began, serve_turn};
 use super::slot::Slot;
 use super::stop::Stop;
 use super::turned::Turned;
@@ -17,7 +17,7 @@ use std::sync::Wait;
 use turn_lock::Bell;
 
 /// The slots of all sources, in their order, behind one lock, and a bell for each fetcher.
-pub struct Posts<S: Source> {
+pub struct SlotTable<S: Source> {
     pub lock: KeyedLock<Slot<S>>,
     /// How many rows a page has at most, and how many pages are read ahead.
     pub page: u32,
@@ -30,10 +30,10 @@ pub struct Posts<S: Source> {
     pub stop: Stop,
 }
 
-/// Written here, and not derived, so that a crate that lets posts go calls this.
-impl<S: Source> Drop for Posts<S> {
+/// Written here, and not derived, so that a crate that lets a slot table go calls this.
+impl<S: Source> Drop for SlotTable<S> {
     fn drop(self) {
-        let Posts {
+        let SlotTable {
             lock: _lock,
             page: _,
             ahead: _,
@@ -64,83 +64,83 @@ fn find_far<S: Source>(alloc: Global, slots: &Vec<Slot<S>>) -> Result<Vec<bool>,
     Ok(far)
 }
 
-/// One turn at the post of a source, where no other thread has it.
+/// One turn with the slot of a source, where no other thread has it.
 fn try_serve<S: Source>(
     rt: &impl Wait,
     alloc: Global,
     pool: &Pool,
-    posts: &Posts<S>,
+    table: &SlotTable<S>,
     pass: &mut Pass<Slot<S>>,
     place: usize,
 ) -> Option<Turned>
-    requires may { MayServe posts.now pool.now pass.old }
+    requires may { MayServe table.now pool.now pass.old }
     requires place { place < length pool.now }
     ensures { pass.new ≡ pass.old }
 {
-    let Some(mut slot) = posts.lock.try_take(pass, place) else {
+    let Some(mut slot) = table.lock.try_take(pass, place) else {
         return None;
     };
-    let turned = serve_turn(rt, alloc, pool, &mut slot, posts.page, posts.ahead);
-    posts.lock.give(pass, place, slot);
+    let turned = serve_turn(rt, alloc, pool, &mut slot, table.page, table.ahead);
+    table.lock.give(pass, place, slot);
     Some(turned)
 }
 
-/// One turn at the post of a source, once no other thread has it.
+/// One turn with the slot of a source, once no other thread has it.
 fn serve<S: Source>(
     rt: &impl Wait,
     alloc: Global,
     pool: &Pool,
-    posts: &Posts<S>,
+    table: &SlotTable<S>,
     pass: &mut Pass<Slot<S>>,
     place: usize,
 ) -> Turned
-    requires may { MayServe posts.now pool.now pass.old }
+    requires may { MayServe table.now pool.now pass.old }
     requires place { place < length pool.now }
     ensures { pass.new ≡ pass.old }
 {
-    let mut slot = posts.lock.take(rt, pass, place);
-    let turned = serve_turn(rt, alloc, pool, &mut slot, posts.page, posts.ahead);
-    posts.lock.give(pass, place, slot);
+    let mut slot = table.lock.take(rt, pass, place);
+    let turned = serve_turn(rt, alloc, pool, &mut slot, table.page, table.ahead);
+    table.lock.give(pass, place, slot);
     turned
 }
 
-/// Takes turns at the post of a source until the sign is set. Where nothing is to be fetched it sleeps until rows may be read ahead.
+/// Takes turns with the slot of a source until the sign is set. Where nothing is to be fetched it sleeps until rows may be read ahead.
 pub fn serve_loop<S: Source>(
     rt: &impl Wait,
     alloc: Global,
     pool: &Pool,
-    posts: &Posts<S>,
+    table: &SlotTable<S>,
     pass: &mut Pass<Slot<S>>,
     place: usize,
 )
-    requires may { MayServe posts.now pool.now pass.old }
+    requires may { MayServe table.now pool.now pass.old }
     requires place { place < length pool.now }
     ensures { pass.new ≡ pass.old }
 {
     for _ in rt.forever() {
-        let rings = posts.bells[place].rings();
-        if posts.stop.is_set() {
+        let rings = table.bells[place].rings();
+        if table.stop.is_set() {
             return;
         }
-        if serve(rt, alloc, pool, posts, pass, place) == Turned::Idle {
-            posts.bells[place].sleep(rt, rings);
+        if serve(rt, alloc, pool, table, pass, place) == Turned::Idle {
+            table.bells[place].sleep(rt, rings);
         }
     }
 }
 
-impl<S: Source> Posts<S> {
-    /// Posts for slots at which no turn was taken yet, with the pass that has all parts. Where memory runs out the slots stay.
+impl<S: Source> SlotTable<S> {
+    /// SlotTable for slots at which no turn was taken yet, with the pass that has all parts. Where memory runs out the slots stay.
     pub fn open(
         alloc: Global,
         pool: &Pool,
         slots: &mut Vec<Slot<S>>,
         page: u32,
         ahead: u32,
-    ) -> Option<(Posts<S>, Pass<Slot<S>>)>
+    ) -> Option<(SlotTable<S>, Pass<Slot<S>>)>
         requires fresh { AreServed S.list S.counts S.calls S.at_hand S.states pool.now page ahead slots.old.items slots.old.items }
         requires many { length slots.old.items ≡ length pool.now }
         requires few { length slots.old.items < 2 ^ 32 }
-        ensures posts { IfSome result (λ r. ArePosts r.0 pool.now × (r.1 ≡ share_of r.0.lock all_parts)) }
+        ensures table { IfSome result (λ r. IsSlotTable r.0 pool.now × (r.1 ≡ share_of r.0.lock all_parts)) }
         ensures began { IfSome result (λ r. (r.0.lock.key.page ≡ page) × (r.0.lock.key.ahead ≡ ahead) × (r.0.lock.key.slots.value ≡ slots.old)) }
         ensures taken { IfSome result (λ _. slots.new.items ≡ []) }
         ensures stay { IfNone result (slots.new.items ≡ slots.old.items) }
@@ -160,7 +160,7 @@ impl<S: Source> Posts<S> {
         };
         match KeyedLock::open(alloc, &began, slots) {
             Ok((lock, pass)) => Some((
-                Posts {
+                SlotTable {
                     lock,
                     page,
                     ahead,
@@ -174,7 +174,7 @@ impl<S: Source> Posts<S> {
         }
     }
 
-    /// Takes the posts down, by the pass that has all parts, and gives the slots back in their order. Takes no memory.
+    /// Takes the table down, by the pass that has all parts, and gives the slots back in their order. Takes no memory.
     pub fn close(self, pass: Pass<Slot<S>>, slots: &mut Vec<Slot<S>>)
         requires size { self.lock.size ≡ length self.lock.key.slots.value.items }
         requires whole { pass ≡ share_of self.lock all_parts }
@@ -183,7 +183,7 @@ impl<S: Source> Posts<S> {
         ensures { AreServed S.list S.counts S.calls S.at_hand S.states self.lock.key.pool.value self.lock.key.page self.lock.key.ahead
             self.lock.key.slots.value.items slots.new.items }
     {
-        let Posts {
+        let SlotTable {
             lock,
             page: _,
             ahead: _,
@@ -228,23 +228,23 @@ impl<S: Source> Posts<S> {
     }
 }
 
-/// One turn at the post of a source; where another thread has its slot, this waits until that gives it back, since it may have fetched what
+/// One turn with the slot of a source; where another thread has its slot, this waits until that gives it back, since it may have fetched what
 /// is needed.
 pub fn serve_or_wait<S: Source>(
     rt: &impl Wait,
     alloc: Global,
     pool: &Pool,
-    posts: &Posts<S>,
+    table: &SlotTable<S>,
     pass: &mut Pass<Slot<S>>,
     place: usize,
 )
-    requires may { MayServe posts.now pool.now pass.old }
+    requires may { MayServe table.now pool.now pass.old }
     requires place { place < length pool.now }
     ensures { pass.new ≡ pass.old }
 {
-    let given = posts.lock.given(place);
-    match try_serve(rt, alloc, pool, posts, pass, place) {
-        Some(turned) => posts.wake(place, turned),
-        None => posts.lock.sleep_till_given(rt, place, given),
+    let given = table.lock.given(place);
+    match try_serve(rt, alloc, pool, table, pass, place) {
+        Some(turned) => table.wake(place, turned),
+        None => table.lock.sleep_till_given(rt, place, given),
     }
 }

@@ -1,4 +1,4 @@
--- A slot that was taken from its post, and one that is given back; posts that are opened and closed.
+-- A slot that was taken out of the table, and one that is given back; a table that is opened and closed.
 use Rattle.std.proofs.Common.{◌≡◌, ℕ, Option, List, length, slice_index_or, sym, subst, arith}
 use Rattle.std.proofs.lemmas.List.{get_or_default}
 use Rattle.ranked_list.specs.declared.row.Row.{Row}
@@ -7,32 +7,32 @@ use Rattle.source_api.specs.declared.counts.Counts.{Counts}
 use Rattle.source_api.specs.Calls.{Call}
 use Rattle.fetcher.specs.declared.slot.Slot.{Slot}
 use Rattle.fetcher.specs.Serving.{IsServed, IsServedFrom}
-use Rattle.fetcher.specs.declared.posts.Posts.{Posts}
+use Rattle.fetcher.specs.declared.slot_table.SlotTable.{SlotTable}
 use Rattle.keyed_lock.specs.Hold.{KeepAll}
-use Rattle.fetcher.specs.declared.post.Began.{Began}
-use Rattle.fetcher.specs.Posting.{ArePosts, AreServed}
+use Rattle.fetcher.specs.declared.serving.Began.{Began}
+use Rattle.fetcher.specs.SlotTables.{IsSlotTable, AreServed}
 
 module _ {S : Type 0} (list : S → Option (List Row)) (counts : S → Counts) (calls : S → Option (List Call)) (at_hand : S → ℕ) (states : S → Option ℕ) where
-  pub taken : (posts : Posts S) (pool : List TableId) (place : ℕ) (slot : Slot S) → ArePosts posts pool
-      → IsServedFrom list counts calls at_hand states posts.lock.key.pool.value posts.lock.key.page posts.lock.key.ahead posts.lock.key.slots.value.items place slot
-      → (d : Slot S) → IsServed list counts calls at_hand states pool posts.page posts.ahead (slice_index_or posts.lock.key.slots.value.items place d) slot
-  taken posts pool place slot are h d =
-      subst (λ (z : List TableId × ℕ × ℕ). IsServed list counts calls at_hand states z.0 z.1 z.2 (slice_index_or posts.lock.key.slots.value.items place d) slot)
+  pub taken : (table : SlotTable S) (pool : List TableId) (place : ℕ) (slot : Slot S) → IsSlotTable table pool
+      → IsServedFrom list counts calls at_hand states table.lock.key.pool.value table.lock.key.page table.lock.key.ahead table.lock.key.slots.value.items place slot
+      → (d : Slot S) → IsServed list counts calls at_hand states pool table.page table.ahead (slice_index_or table.lock.key.slots.value.items place d) slot
+  taken table pool place slot are h d =
+      subst (λ (z : List TableId × ℕ × ℕ). IsServed list counts calls at_hand states z.0 z.1 z.2 (slice_index_or table.lock.key.slots.value.items place d) slot)
       (λ i. (are.of i, are.page i, are.ahead i)) (h.served d)
 
-  pub given : (posts : Posts S) (pool : List TableId) (place : ℕ) (slot : Slot S) → ArePosts posts pool
-      → ((d : Slot S) → IsServed list counts calls at_hand states pool posts.page posts.ahead (slice_index_or posts.lock.key.slots.value.items place d) slot)
-      → IsServedFrom list counts calls at_hand states posts.lock.key.pool.value posts.lock.key.page posts.lock.key.ahead posts.lock.key.slots.value.items place slot
-  given posts pool place slot are h = record {
-    served = λ d. subst (λ (z : List TableId × ℕ × ℕ). IsServed list counts calls at_hand states z.0 z.1 z.2 (slice_index_or posts.lock.key.slots.value.items place d) slot)
+  pub given : (table : SlotTable S) (pool : List TableId) (place : ℕ) (slot : Slot S) → IsSlotTable table pool
+      → ((d : Slot S) → IsServed list counts calls at_hand states pool table.page table.ahead (slice_index_or table.lock.key.slots.value.items place d) slot)
+      → IsServedFrom list counts calls at_hand states table.lock.key.pool.value table.lock.key.page table.lock.key.ahead table.lock.key.slots.value.items place slot
+  given table pool place slot are h = record {
+    served = λ d. subst (λ (z : List TableId × ℕ × ℕ). IsServed list counts calls at_hand states z.0 z.1 z.2 (slice_index_or table.lock.key.slots.value.items place d) slot)
         (λ i. (sym are.of i, sym are.page i, sym are.ahead i)) (h d);
   }
 
-  -- the fact that the posts keep
+  -- the fact that the table keeps
   abbrev pub kept_fact : Began S → ℕ → Slot S → Type 0
   kept_fact began place slot = IsServedFrom list counts calls at_hand states began.pool.value began.page began.ahead began.slots.value.items place slot
 
-  -- before any turn the slots keep what the posts are opened with
+  -- before any turn the slots keep what the table is opened with
   pub keep_opened : (began : Began S) (pool : List TableId) (page ahead : ℕ) (slots : List (Slot S)) → began.pool.value ≡ pool
       → began.page ≡ page → began.ahead ≡ ahead → began.slots.value.items ≡ slots
       → AreServed list counts calls at_hand states pool page ahead slots slots → KeepAll kept_fact began slots
@@ -46,7 +46,7 @@ module _ {S : Type 0} (list : S → Option (List Row)) (counts : S → Counts) (
         });
   }
 
-  -- what the posts keep is what was served at them
+  -- what the table keeps is what was served at them
   pub kept_served : (began : Began S) (now : List (Slot S)) → length now ≡ length began.slots.value.items → KeepAll kept_fact began now
       → AreServed list counts calls at_hand states began.pool.value began.page began.ahead began.slots.value.items now
   kept_served began now size keep = record {

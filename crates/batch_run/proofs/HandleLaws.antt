@@ -1,4 +1,4 @@
--- What hands leave, taken together.
+-- What handles leave, taken together.
 use Rattle.std.proofs.Common.{◌≡◌, ◌<◌, ℕ, Option, List, All, IfSome, length, map, slice_index_or, refl, sym, ap, subst, ◌∙◌, inl, inr, arith}
 use Rattle.std.proofs.lemmas.List.{length-map}
 use Rattle.ranked_list.specs.declared.row.Row.{Row}
@@ -10,18 +10,18 @@ use Rattle.source_api.specs.Calls.{Call}
 use Rattle.source_api.specs.Told.{HasEachOnce}
 use Rattle.query_core.specs.declared.ready.Ready.{Ready}
 use Rattle.fetcher.specs.declared.slot.Slot.{Slot}
-use Rattle.fetcher.specs.declared.post.Began.{Began}
+use Rattle.fetcher.specs.declared.serving.Began.{Began}
 use Rattle.fetcher.specs.Metering.{nothing}
 use Rattle.fetcher.specs.Serving.{IsServed}
 use Rattle.fetcher.proofs.ServeLaws.{served_none}
 use Rattle.batch_result.proofs.Places.{stands_at, map_at}
 use Rattle.batch_run.specs.declared.work.Worker.{Worker}
-use Rattle.keyed_lock.specs.declared.hands.Hand.{Hand}
-use Rattle.fetcher.specs.declared.posts.Posts.{Posts}
+use Rattle.keyed_lock.specs.declared.handles.WorkerHandle.{WorkerHandle}
+use Rattle.fetcher.specs.declared.slot_table.SlotTable.{SlotTable}
 use Rattle.batch_run.specs.Working.{IsAtWork, Worked, AllWorked}
 use Rattle.batch_run.specs.Slots.{state_of, HasFeeder, Fetches, AllFetch}
-use Rattle.fetcher.specs.Posting.{ArePosts, AreServed}
-use Rattle.batch_run.specs.Handing.{AllHands}
+use Rattle.fetcher.specs.SlotTables.{IsSlotTable, AreServed}
+use Rattle.batch_run.specs.Handles.{AllHandles}
 use Rattle.batch_run.proofs.WorkLaws.{worked_same}
 
 -- workers that have not begun
@@ -31,32 +31,32 @@ all_idle pool tickets readies workers at = record { size = refl; each = λ i d l
 
 module _ {S : Type 0} where
   -- workers that were given passes begin
-  pub hands_begin : (pool : List TableId) (tickets : TableId) (readies : List Ready) (before : List Worker) (hands : List (Hand Worker (Slot S) (Began S)))
-      → map (λ (hand : Hand Worker (Slot S) (Began S)). hand.worker) hands ≡ before → All (IsAtWork pool tickets readies) before
-      → All (λ (hand : Hand Worker (Slot S) (Began S)). IsAtWork pool tickets readies hand.worker) hands
-  hands_begin pool tickets readies before hands are at i d l =
-      subst (IsAtWork pool tickets readies) (map_at (λ (hand : Hand Worker (Slot S) (Began S)). hand.worker) hands i d d.worker l)
+  pub handles_begin : (pool : List TableId) (tickets : TableId) (readies : List Ready) (before : List Worker) (handles : List (WorkerHandle Worker (Slot S) (Began S)))
+      → map (λ (handle : WorkerHandle Worker (Slot S) (Began S)). handle.worker) handles ≡ before → All (IsAtWork pool tickets readies) before
+      → All (λ (handle : WorkerHandle Worker (Slot S) (Began S)). IsAtWork pool tickets readies handle.worker) handles
+  handles_begin pool tickets readies before handles are at i d l =
+      subst (IsAtWork pool tickets readies) (map_at (λ (handle : WorkerHandle Worker (Slot S) (Began S)). handle.worker) handles i d d.worker l)
       (subst (λ (ws : List Worker). IsAtWork pool tickets readies (slice_index_or ws i d.worker)) (sym are)
-      (at i d.worker (let e : length before ≡ length hands = sym (ap length are) ∙ length-map hands (λ (hand : Hand Worker (Slot S) (Began S)). hand.worker) in omega (arith, e, l))))
+      (at i d.worker (let e : length before ≡ length handles = sym (ap length are) ∙ length-map handles (λ (handle : WorkerHandle Worker (Slot S) (Began S)). handle.worker) in omega (arith, e, l))))
 
   -- and have worked once they gave their passes back
-  pub hands_end : (pool : List TableId) (tickets : TableId) (readies : List Ready) (before after : List Worker) (hands left : List (Hand Worker (Slot S) (Began S)))
-      → map (λ (hand : Hand Worker (Slot S) (Began S)). hand.worker) hands ≡ before → after ≡ map (λ (hand : Hand Worker (Slot S) (Began S)). hand.worker) left
-      → AllHands pool tickets readies hands left → AllWorked pool tickets readies before after
-  hands_end pool tickets readies before after hands left were are all =
-      let long : length before ≡ length hands = sym (ap length were) ∙ length-map hands (λ (hand : Hand Worker (Slot S) (Began S)). hand.worker) in
-      let now : length after ≡ length left = ap length are ∙ length-map left (λ (hand : Hand Worker (Slot S) (Began S)). hand.worker) in
+  pub handles_end : (pool : List TableId) (tickets : TableId) (readies : List Ready) (before after : List Worker) (handles left : List (WorkerHandle Worker (Slot S) (Began S)))
+      → map (λ (handle : WorkerHandle Worker (Slot S) (Began S)). handle.worker) handles ≡ before → after ≡ map (λ (handle : WorkerHandle Worker (Slot S) (Began S)). handle.worker) left
+      → AllHandles pool tickets readies handles left → AllWorked pool tickets readies before after
+  handles_end pool tickets readies before after handles left were are all =
+      let long : length before ≡ length handles = sym (ap length were) ∙ length-map handles (λ (handle : WorkerHandle Worker (Slot S) (Began S)). handle.worker) in
+      let now : length after ≡ length left = ap length are ∙ length-map left (λ (handle : WorkerHandle Worker (Slot S) (Began S)). handle.worker) in
       let size = all.size in
       record {
         size = omega (arith, long, now, size);
         each = λ i d l.
-            let within : i < length hands = omega (arith, long, l) in
+            let within : i < length handles = omega (arith, long, l) in
             let there : i < length left = omega (arith, size, within) in
-            let h = (stands_at hands i within).item in
+            let h = (stands_at handles i within).item in
             subst (λ (z : Worker × Worker). Worked pool tickets readies z.0 z.1)
             (λ k. (
-              (sym (map_at (λ (hand : Hand Worker (Slot S) (Began S)). hand.worker) hands i h d within) ∙ ap (λ (ws : List Worker). slice_index_or ws i d) were) k,
-              (sym (map_at (λ (hand : Hand Worker (Slot S) (Began S)). hand.worker) left i h d there) ∙ ap (λ (ws : List Worker). slice_index_or ws i d) (sym are)) k,
+              (sym (map_at (λ (handle : WorkerHandle Worker (Slot S) (Began S)). handle.worker) handles i h d within) ∙ ap (λ (ws : List Worker). slice_index_or ws i d) were) k,
+              (sym (map_at (λ (handle : WorkerHandle Worker (Slot S) (Began S)). handle.worker) left i h d there) ∙ ap (λ (ws : List Worker). slice_index_or ws i d) (sym are)) k,
             ))
             (all.worked i h within);
       }
@@ -114,12 +114,12 @@ module _ {S : Type 0} (list : S → Option (List Row)) (counts : S → Counts) (
       subst (λ (xs : List (Slot S)). AllFetch list counts at_hand pool settings slots xs) (sym same)
       (all_fetch pool settings slots slots (all_fresh pool settings slots are once has none))
 
-  -- what the posts gave back
-  pub all_served : (posts : Posts S) (pool : List TableId) (settings : Settings) (slots now : List (Slot S)) → ArePosts posts pool
-      → posts.lock.key.page ≡ settings.page → posts.lock.key.ahead ≡ settings.ahead → posts.lock.key.slots.value.items ≡ slots
-      → AreServed list counts calls at_hand states posts.lock.key.pool.value posts.lock.key.page posts.lock.key.ahead posts.lock.key.slots.value.items now
+  -- what the table gave back
+  pub all_served : (table : SlotTable S) (pool : List TableId) (settings : Settings) (slots now : List (Slot S)) → IsSlotTable table pool
+      → table.lock.key.page ≡ settings.page → table.lock.key.ahead ≡ settings.ahead → table.lock.key.slots.value.items ≡ slots
+      → AreServed list counts calls at_hand states table.lock.key.pool.value table.lock.key.page table.lock.key.ahead table.lock.key.slots.value.items now
       → AllFetch list counts at_hand pool settings slots now
-  all_served posts pool settings slots now are page ahead were served =
+  all_served table pool settings slots now are page ahead were served =
       all_fetch pool settings slots now
       (subst (λ (z : List TableId × ℕ × ℕ × List (Slot S)). AreServed list counts calls at_hand states z.0 z.1 z.2 z.3 now)
       (λ k. (are.of k, page k, ahead k, were k)) served)

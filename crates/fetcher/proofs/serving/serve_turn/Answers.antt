@@ -1,6 +1,6 @@
 use Rattle.std.proofs.Common.{refl}
 use Rattle.fetcher.proofs.ServeLaws.{served_more}
-use Rattle.fetcher.proofs.post.serve_turn.Goals as goal
+use Rattle.fetcher.proofs.serving.serve_turn.Goals as goal
 
 pub returns : goal.returns
 returns g c before served =

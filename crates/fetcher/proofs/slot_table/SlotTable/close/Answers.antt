@@ -1,6 +1,6 @@
 use Rattle.std.proofs.Common.{◌∙◌}
-use Rattle.fetcher.proofs.PostLaws.{kept_served}
-use Rattle.fetcher.proofs.posts.Posts.close.Goals as goal
+use Rattle.fetcher.proofs.SlotTableLaws.{kept_served}
+use Rattle.fetcher.proofs.slot_table.SlotTable.close.Goals as goal
 
 pub returns : goal.returns
 returns g c =

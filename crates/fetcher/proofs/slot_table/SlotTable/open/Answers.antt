@@ -1,6 +1,6 @@
 use Rattle.std.proofs.Common.{ap, refl}
-use Rattle.fetcher.proofs.PostLaws.{keep_opened}
-use Rattle.fetcher.proofs.posts.Posts.open.Goals as goal
+use Rattle.fetcher.proofs.SlotTableLaws.{keep_opened}
+use Rattle.fetcher.proofs.slot_table.SlotTable.open.Goals as goal
 
 pub open-requires-clause-keep : goal.open-requires-clause-keep
 open-requires-clause-keep g c κs within =
