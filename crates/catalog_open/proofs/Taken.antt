@@ -11,7 +11,7 @@ use Rattle.source_api.specs.declared.ledger.PlaceCounts.{PlaceCounts}
 use Rattle.source_api.specs.declared.source.Trouble.{Trouble}
 use Rattle.source_api.specs.declared.source.FailKind.TheVariants as kind
 use Rattle.source_api.specs.declared.source.Trouble.TheVariants as trouble
-use Rattle.source_api.specs.Calls.{Call, with_call}
+use Rattle.source_api.specs.Calls.{Call, IsUncalled, with_call}
 use Rattle.source_api.specs.Counting.{GaveNothing, IsNoMove, TroubleHasCause}
 use Rattle.source_api.specs.Places.{CountsTakes, HasTakeCause, SameAtEach, SameElsewhere, counts_taken}
 use Rattle.catalog_text.specs.Catalog.{Listed as Entry}
