@@ -3,6 +3,7 @@ pub mod LogLaws
 pub mod Caching
 pub mod AskLaws
 pub mod Sound
+mod Noting
 mod Stepping
 pub mod Drawing
 pub mod Told

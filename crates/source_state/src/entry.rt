@@ -1,6 +1,7 @@
 //! The entries of a source's log.
 
 use ranked_list::Row;
+use std::mem::size_of;
 
 /// What is at fault with the rows or with a grade of a source. Places count from 1.
 #[derive(Clone, Copy, PartialEq, Eq)]
@@ -80,3 +81,16 @@ pub enum LogEntry {
     /// The rows are at fault from here on.
     Fault(SourceFault),
 }
+
+/// Where an entry of the log stands.
+#[derive(Clone, Copy)]
+pub enum Note {
+    /// The row at this place was kept.
+    Kept { place: u32 },
+    /// The ask at this place was settled.
+    Settled { place: u32 },
+    /// The row fault was set.
+    Fault,
+}
+
+const _: () = prove!(size_of::<Note>() == 8);

@@ -1,8 +1,9 @@
 //! The state of one source, which all queries that read it share: a log of its rows, of the grades that were asked for, and of its faults.
 //!
-//! Events only add to the log, so what was read of it stays. One table has what is kept of each object, and the grades that are beyond the rows
-//! stand in a heap. All room is taken when a state is opened: from then on no event takes memory, and each costs at most the logarithm of the
-//! asks, but for a row that a grade is above, which looks for the first such grade among them.
+//! Events only add to the log, so what was read of it stays. It is kept as notes of where the row or the ask of each entry stands. One table has
+//! what is kept of each object, and the grades that are beyond the rows stand in a heap. All room is taken when a state is opened: from then on no
+//! event takes memory, and each costs at most the logarithm of the asks, but for a row that a grade is above, which looks for the first such grade
+//! among them.
 #![tactic(auto)]
 
 mod ask;

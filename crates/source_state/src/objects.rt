@@ -141,13 +141,14 @@ impl Objects {
         }
     }
 
-    /// The ask of an object settles, if there is one.
-    pub fn settle(&mut self, object: u32, settling: Settling)
-        ensures { self.new ≡ record self.old { asks = settled_asks object settling self.old.asks } }
+    /// The ask of an object settles, if there is one: its place.
+    pub fn settle(&mut self, object: u32, settling: Settling) -> Option<u32>
+        ensures settled { self.new ≡ record self.old { asks = settled_asks object settling self.old.asks } }
+        ensures place { result ≡ position (nat_eq object) (ask_objects self.old.asks) }
     {
-        if let Some(place) = self.spot(object).place {
-            self.settle_at(place, object, settling);
-        }
+        let place = self.spot(object).place?;
+        self.settle_at(place, object, settling);
+        Some(place)
     }
 
     /// The ask at a place, which is of an object, settles.

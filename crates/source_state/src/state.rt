@@ -1,13 +1,13 @@
 //! The state.
 
-ghost use Rattle.std.specs.Prelude.{◌≡◌, ◌<◌, ◌≤◌, [], ◌∷◌, ◌++◌, None, Some, length, slice_get, IfOk, vec_len, vec_capacity};
+ghost use Rattle.std.specs.Prelude.{◌≡◌, ◌<◌, ◌≤◌, None, Some, length, slice_get, IfOk};
 ghost use Rattle.turn_lock.specs.Facts.{FactsGrow};
 ghost use Rattle.source_state.specs.Log.{rows_in, fault_in};
 ghost use Rattle.topk_theory.specs.Bounds.{grade_among};
 ghost use Rattle.source_state.specs.State.{opened, asks_of, asked_in, asked_as, first_pending, fails_of, fault_by_grades, row_fault, settle, IsSound, SettlesWell};
 ghost use Rattle.source_state.specs.Events.{counted};
 
-use super::entry::{Asked, LogEntry, Settling, SourceFault};
+use super::entry::{Asked, LogEntry, Note, Settling, SourceFault};
 use super::event::{Applied, Event};
 use super::objects::Objects;
 use ranked_list::{PageRows, Row};
@@ -36,7 +36,7 @@ struct Kept {
     list: u32,
     count: u32,
     want: u32,
-    log: Vec<LogEntry>,
+    log: Vec<Note>,
     objects: Objects,
     fault: Option<SourceFault>,
     tally: Tally,
@@ -105,15 +105,6 @@ fn row_at(rows: &PageRows, place: u32) -> Row
     ensures { slice_get rows.now place ≡ Some result }
 {
     *rows.get(place).unwrap()
-}
-
-/// Puts an entry last, for which there is room.
-fn add_entry(log: &mut Vec<LogEntry>, entry: LogEntry)
-    requires { vec_len log.old < vec_capacity log.old }
-    ensures items { log.new.items ≡ log.old.items ++ entry ∷ [] }
-    ensures capacity { vec_capacity log.old ≤ vec_capacity log.new }
-{
-    log.push(entry).unwrap();
 }
 
 impl SourceState {
@@ -188,8 +179,9 @@ impl SourceState {
         ensures grows { FactsGrow (facts_of self.old) (facts_of self.new) }
         ensures sound { IsSound self.new }
     {
-        self.kept.want = self.kept.want.max(depth);
-        self.kept.paused = false;
+        let kept = &mut *self.kept;
+        kept.want = kept.want.max(depth);
+        kept.paused = false;
     }
 
     /// The grade of an object is asked for.
@@ -210,9 +202,10 @@ impl SourceState {
         ensures grows { FactsGrow (facts_of self.old) (facts_of self.new) }
         ensures sound { IsSound self.new }
     {
-        self.kept.tally = counted(what, self.kept.tally);
-        self.kept.last_fail = Some(what);
-        self.kept.paused = true;
+        let kept = &mut *self.kept;
+        kept.tally = counted(what, kept.tally);
+        kept.last_fail = Some(what);
+        kept.paused = true;
     }
 
     /// The grade of an object whose ask is pending.
@@ -258,8 +251,8 @@ impl SourceState {
         ensures sound { IsSound self.new }
     {
         let kept = &mut *self.kept;
-        kept.objects.settle(object, settling);
-        add_entry(&mut kept.log, LogEntry::Settled { object, settling });
+        let place = kept.objects.settle(object, settling).unwrap();
+        kept.log.push_reserved(Note::Settled { place });
     }
 
     /// The list was replaced: without an object the rows are at fault, with one its ask, which is pending, is settled.
@@ -389,8 +382,9 @@ impl SourceState {
         ensures sound { IsSound self.new }
     {
         let kept = &mut *self.kept;
+        let place = kept.objects.rows();
         kept.objects.push(row);
-        add_entry(&mut kept.log, LogEntry::Kept(row));
+        kept.log.push_reserved(Note::Kept { place });
     }
 
     /// Sets the row fault, where none stands.
@@ -400,7 +394,7 @@ impl SourceState {
         ensures sound { IsSound self.new }
     {
         let kept = &mut *self.kept;
-        add_entry(&mut kept.log, LogEntry::Fault(fault));
+        kept.log.push_reserved(Note::Fault);
         kept.fault = Some(fault);
     }
 

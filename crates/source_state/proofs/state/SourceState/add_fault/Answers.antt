@@ -8,24 +8,22 @@ use Rattle.source_state.proofs.Sound.{sound_fault}
 use Rattle.source_state.proofs.Stepping.{state_fault, entry_room}
 use Rattle.source_state.proofs.state.SourceState.add_fault.Goals as goal
 
-pub add_entry-requires : goal.add_entry-requires
-add_entry-requires c =
+pub push_reserved-requires : goal.push_reserved-requires
+push_reserved-requires c =
     let room : length c.deref_mut-kept.result.now.log.items < vec_capacity c.deref_mut-kept.result.now.log =
-    entry_room _ (Fault c.args.fault) c.deref_mut-kept.result.now.objects c.deref_mut-kept.result.now.fault _ (subst KeepsFields (sym c.deref_mut-kept.ensures.value) c.self.invariant) (sound_fault _ c.args.fault (subst KeepsFields (sym c.deref_mut-kept.ensures.value) c.self.invariant).sound (subst (λ (s : State). fault_in s.log ≡ None) (sym (ap shown_by c.deref_mut-kept.ensures.value ∙ c.self.view_is)) c.requires)) in
+    entry_room _ (Fault c.args.fault) c.deref_mut-kept.result.now.objects c.deref_mut-kept.result.now.fault _ _ (subst KeepsFields (sym c.deref_mut-kept.ensures.value) c.self.invariant) (sound_fault _ c.args.fault (subst KeepsFields (sym c.deref_mut-kept.ensures.value) c.self.invariant).sound (subst (λ (s : State). fault_in s.log ≡ None) (sym (ap shown_by c.deref_mut-kept.ensures.value ∙ c.self.view_is)) c.requires)) in
     omega (arith, c.deref_mut-kept.result.now.log.ok.0)
 
 pub invariant_of-self : goal.invariant_of-self
 invariant_of-self c =
-    (state_fault _ c.deref_mut-kept.result.now.objects c.deref_mut-kept.result.now.fault _ _ c.args.fault c.add_entry.new.log.items (subst KeepsFields (sym c.deref_mut-kept.ensures.value) c.self.invariant)
-    (subst (λ (s : State). fault_in s.log ≡ None) (sym (ap shown_by c.deref_mut-kept.ensures.value ∙ c.self.view_is)) c.requires) c.add_entry.ensures.items c.add_entry.ensures.capacity).keeps
+    (state_fault _ c.deref_mut-kept.result.now.objects c.deref_mut-kept.result.now.fault _ c.push_reserved.new.self.items _ _ c.args.fault (subst KeepsFields (sym c.deref_mut-kept.ensures.value) c.self.invariant)
+    (subst (λ (s : State). fault_in s.log ≡ None) (sym (ap shown_by c.deref_mut-kept.ensures.value ∙ c.self.view_is)) c.requires) c.push_reserved.ensures.items c.push_reserved.ensures.capacity).keeps
 
 pub returns-clause-state : goal.returns-clause-state
 returns-clause-state c =
-    (state_fault _ c.deref_mut-kept.result.now.objects c.deref_mut-kept.result.now.fault _ _ c.args.fault c.add_entry.new.log.items (subst KeepsFields (sym c.deref_mut-kept.ensures.value) c.self.invariant)
-    (subst (λ (s : State). fault_in s.log ≡ None) (sym (ap shown_by c.deref_mut-kept.ensures.value ∙ c.self.view_is)) c.requires) c.add_entry.ensures.items c.add_entry.ensures.capacity).same
+    (state_fault _ c.deref_mut-kept.result.now.objects c.deref_mut-kept.result.now.fault _ c.push_reserved.new.self.items _ _ c.args.fault (subst KeepsFields (sym c.deref_mut-kept.ensures.value) c.self.invariant)
+    (subst (λ (s : State). fault_in s.log ≡ None) (sym (ap shown_by c.deref_mut-kept.ensures.value ∙ c.self.view_is)) c.requires) c.push_reserved.ensures.items c.push_reserved.ensures.capacity).same
     ∙ ap (λ (s : State). logged s (Fault c.args.fault)) (ap shown_by c.deref_mut-kept.ensures.value ∙ c.self.view_is)
 
 pub returns-clause-sound : goal.returns-clause-sound
-returns-clause-sound c =
-    (state_fault _ c.deref_mut-kept.result.now.objects c.deref_mut-kept.result.now.fault _ _ c.args.fault c.add_entry.new.log.items (subst KeepsFields (sym c.deref_mut-kept.ensures.value) c.self.invariant)
-    (subst (λ (s : State). fault_in s.log ≡ None) (sym (ap shown_by c.deref_mut-kept.ensures.value ∙ c.self.view_is)) c.requires) c.add_entry.ensures.items c.add_entry.ensures.capacity).keeps.sound
+returns-clause-sound c = (invariant_of-self c).sound

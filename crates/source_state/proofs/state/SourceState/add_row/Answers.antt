@@ -20,10 +20,10 @@ push-requires-clause-room c =
     subst (λ (list : ObjectList). length list.rows < list.room) (sym (subst KeepsFields (sym c.deref_mut-kept.ensures.value) c.self.invariant).objects)
     (subst (λ (s : State). length (rows_in s.log) < s.count) (sym (ap shown_by c.deref_mut-kept.ensures.value ∙ c.self.view_is)) c.requires.room)
 
-pub add_entry-requires : goal.add_entry-requires
-add_entry-requires c =
+pub push_reserved-requires : goal.push_reserved-requires
+push_reserved-requires c =
     let room : length c.deref_mut-kept.result.now.log.items < vec_capacity c.deref_mut-kept.result.now.log =
-    entry_room _ (Kept c.args.row) c.deref_mut-kept.result.now.objects c.deref_mut-kept.result.now.fault _ (subst KeepsFields (sym c.deref_mut-kept.ensures.value) c.self.invariant)
+    entry_room _ (Kept c.args.row) c.deref_mut-kept.result.now.objects c.deref_mut-kept.result.now.fault _ _ (subst KeepsFields (sym c.deref_mut-kept.ensures.value) c.self.invariant)
     (sound_row _ c.args.row (subst KeepsFields (sym c.deref_mut-kept.ensures.value) c.self.invariant).sound
     (subst (λ (s : State). length (rows_in s.log) < s.count) (sym (ap shown_by c.deref_mut-kept.ensures.value ∙ c.self.view_is)) c.requires.room)
     (subst (λ (s : State). row_fault (rows_in s.log) (asks_of s) c.args.row ≡ None) (sym (ap shown_by c.deref_mut-kept.ensures.value ∙ c.self.view_is)) c.requires.sound)) in
@@ -31,22 +31,18 @@ add_entry-requires c =
 
 pub invariant_of-self : goal.invariant_of-self
 invariant_of-self c =
-    (state_row _ c.deref_mut-kept.result.now.objects c.push.new.self c.deref_mut-kept.result.now.fault _ _ c.args.row c.add_entry.new.log.items (subst KeepsFields (sym c.deref_mut-kept.ensures.value) c.self.invariant)
+    (state_row _ c.deref_mut-kept.result.now.objects c.push.new.self c.deref_mut-kept.result.now.fault _ c.push_reserved.new.self.items _ _ c.rows-place.result c.args.row (subst KeepsFields (sym c.deref_mut-kept.ensures.value) c.self.invariant)
     (subst (λ (s : State). length (rows_in s.log) < s.count) (sym (ap shown_by c.deref_mut-kept.ensures.value ∙ c.self.view_is)) c.requires.room)
     (subst (λ (s : State). row_fault (rows_in s.log) (asks_of s) c.args.row ≡ None) (sym (ap shown_by c.deref_mut-kept.ensures.value ∙ c.self.view_is)) c.requires.sound)
-    c.push.ensures c.add_entry.ensures.items c.add_entry.ensures.capacity).keeps
+    c.push.ensures c.rows-place.ensures.rows c.push_reserved.ensures.items c.push_reserved.ensures.capacity).keeps
 
 pub returns-clause-state : goal.returns-clause-state
 returns-clause-state c =
-    (state_row _ c.deref_mut-kept.result.now.objects c.push.new.self c.deref_mut-kept.result.now.fault _ _ c.args.row c.add_entry.new.log.items (subst KeepsFields (sym c.deref_mut-kept.ensures.value) c.self.invariant)
+    (state_row _ c.deref_mut-kept.result.now.objects c.push.new.self c.deref_mut-kept.result.now.fault _ c.push_reserved.new.self.items _ _ c.rows-place.result c.args.row (subst KeepsFields (sym c.deref_mut-kept.ensures.value) c.self.invariant)
     (subst (λ (s : State). length (rows_in s.log) < s.count) (sym (ap shown_by c.deref_mut-kept.ensures.value ∙ c.self.view_is)) c.requires.room)
     (subst (λ (s : State). row_fault (rows_in s.log) (asks_of s) c.args.row ≡ None) (sym (ap shown_by c.deref_mut-kept.ensures.value ∙ c.self.view_is)) c.requires.sound)
-    c.push.ensures c.add_entry.ensures.items c.add_entry.ensures.capacity).same
+    c.push.ensures c.rows-place.ensures.rows c.push_reserved.ensures.items c.push_reserved.ensures.capacity).same
     ∙ ap (λ (s : State). logged s (Kept c.args.row)) (ap shown_by c.deref_mut-kept.ensures.value ∙ c.self.view_is)
 
 pub returns-clause-sound : goal.returns-clause-sound
-returns-clause-sound c =
-    (state_row _ c.deref_mut-kept.result.now.objects c.push.new.self c.deref_mut-kept.result.now.fault _ _ c.args.row c.add_entry.new.log.items (subst KeepsFields (sym c.deref_mut-kept.ensures.value) c.self.invariant)
-    (subst (λ (s : State). length (rows_in s.log) < s.count) (sym (ap shown_by c.deref_mut-kept.ensures.value ∙ c.self.view_is)) c.requires.room)
-    (subst (λ (s : State). row_fault (rows_in s.log) (asks_of s) c.args.row ≡ None) (sym (ap shown_by c.deref_mut-kept.ensures.value ∙ c.self.view_is)) c.requires.sound)
-    c.push.ensures c.add_entry.ensures.items c.add_entry.ensures.capacity).keeps.sound
+returns-clause-sound c = (invariant_of-self c).sound
