@@ -7,6 +7,7 @@ use Rattle.ranked_list.specs.declared.need.Need.TheVariants as needs
 use Rattle.ranked_list.specs.Table.{objects}
 use Rattle.monotone_fn.specs.declared.costs.Costs.{Costs}
 use Rattle.monotone_fn.specs.Tree.{Tree}
+use Rattle.monotone_fn.specs.Shape.{list_count}
 use Rattle.monotone_fn.specs.Value.{value}
 use Rattle.topk_theory.specs.declared.access.Access.{Access}
 use Rattle.topk_theory.specs.declared.access.Access.TheVariants.{Sorted, Random}
@@ -72,7 +73,7 @@ kept_start e k phase room m n held = record {
 pub stands_start : (e : Tree) (k n room phase : ℕ) (costs : Costs) (base : Base) (late : LateSeen) (first : List Item) (capacity : ℕ)
     → IsBegun e k n room costs (shown base needs.Done) → Holds base → IsReserved base → first ≡ [] → min room n ≤ capacity
     → phase ≡ phase_length costs.sorted costs.random
-    → ((e : Tree) (m : ℕ) → AreRenewed e k (min room n) m [] late) → Stands base phase late first capacity (stages.Row 0 1)
+    → ((x : Tree) → AreRenewed x k (min room n) (list_count e) [] late) → Stands base phase late first capacity (stages.Row 0 1)
 stands_start e k n room phase costs base late first capacity begun held reserved none roomy paid seen =
     let m : ℕ = base.transcript.lists in
     let count : ℕ = base.transcript.count in
@@ -81,7 +82,7 @@ stands_start e k n room phase costs base late first capacity begun held reserved
           (subst (λ xs. IsCaKept base.expr base.k phase base.room m count [] xs (stages.Row 0 1)) (sym none)
           (kept_start base.expr base.k phase base.room m count (subst (IsHeld base.expr base.k base.room m count) begun.none held)));
       seen = subst (λ A. AreRenewed base.expr base.k base.room m A late) (sym begun.none)
-          (subst (λ r. AreRenewed base.expr base.k r m [] late) (sym begun.in_force) (subst (λ c. AreRenewed base.expr c (min room n) m [] late) (sym begun.asked) (seen base.expr m)));
+          (subst (λ r. AreRenewed base.expr base.k r m [] late) (sym begun.in_force) (subst (λ c. AreRenewed base.expr c (min room n) m [] late) (sym begun.asked) (subst (λ l. AreRenewed base.expr k (min room n) l [] late) (sym begun.lists) (seen base.expr))));
       reserved = reserved;
       paid = paid ∙ ap (λ (c : Costs). phase_length c.sorted c.random) (sym begun.costs);
       roomy = omega (arith, begun.in_force);

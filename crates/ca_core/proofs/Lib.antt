@@ -1,5 +1,7 @@
 pub mod Noting
+pub mod AtPlaces
 pub mod Highest
+pub mod Capping
 pub mod Pieces
 pub mod Asks
 pub mod Path

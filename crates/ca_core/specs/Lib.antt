@@ -1,4 +1,6 @@
+pub mod Ties
 pub mod Open
+pub mod Leading
 pub mod Course
 pub mod Seen
 pub mod OnTable

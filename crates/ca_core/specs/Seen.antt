@@ -15,7 +15,7 @@ pub record AreRenewed (e : Tree) (k room m : ℕ) (A : List Access) (late : Late
   pub same_room : late.bounds.first.room ≡ room
   pub space : length late.highs.highs ≡ room
   pub bounds : IsLateAfter e m A late.bounds
-  pub highs : AreOpen (value e) m A late.highs.highs
+  pub highs : AreOpen (value e) m A late.highs.highs late.highs.ties.heaps.items
 
 abbrev pub KeepsSeen : Base → LateSeen → Type 0
 KeepsSeen base late = AreRenewed base.expr base.k base.room base.transcript.lists base.transcript.accesses late

@@ -86,7 +86,7 @@ impl Ca {
             expr.let_go();
             return Err(Memory);
         };
-        let Ok(late) = LateSeen::make(alloc, k, room.min(count)) else {
+        let Ok(late) = LateSeen::make(alloc, k, expr.lists(), room.min(count)) else {
             expr.let_go();
             drop(first);
             return Err(Memory);

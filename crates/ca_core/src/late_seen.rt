@@ -21,17 +21,17 @@ pub(crate) struct LateSeen {
 }
 
 impl LateSeen {
-    /// Before any access, with room for so many seen objects.
-    pub(crate) fn make(alloc: Global, k: u32, room: u32) -> Result<LateSeen, Memory>
+    /// Before any access, over so many lists and with room for so many seen objects.
+    pub(crate) fn make(alloc: Global, k: u32, lists: u8, room: u32) -> Result<LateSeen, Memory>
         requires asked { 1 ≤ k }
         requires few { k ≤ MAX_OBJECTS }
         requires room { room ≤ MAX_OBJECTS }
-        ensures { IfOk result (λ late. (e : Tree) (m : ℕ) → AreRenewed e k room m [] late) }
+        ensures { IfOk result (λ late. (e : Tree) → AreRenewed e k room lists [] late) }
     {
         let Ok(bounds) = LateBounds::make(alloc, k, room) else {
             return Err(Memory);
         };
-        let Ok(highs) = OpenHighs::make(alloc, room) else {
+        let Ok(highs) = OpenHighs::make(alloc, lists, room) else {
             drop(bounds);
             return Err(Memory);
         };

@@ -8,6 +8,7 @@ ghost use Rattle.access_log.specs.Log.{IsConsistent};
 ghost use Rattle.ca_core.specs.Open.{AreOpen, KeepsOpen, WasOpen};
 
 use super::kept_high::KeptHigh;
+use super::ties::Ties;
 use access_log::Transcript;
 use containers::IndexedHeap;
 use machine_base::next_unknown;
@@ -15,30 +16,35 @@ use monotone_fn::Expr;
 use std::alloc::Global;
 use topk_base::{MAX_OBJECTS, Memory};
 
-/// The seen objects that have an unknown grade, by their places in the order of first sight, each with a kept high
-/// that is at least its present one.
+/// The seen objects that have an unknown grade, by their places in the order of first sight: each has a kept high
+/// that is at least its present one, or is tied at the cap of a list.
 #[derive(Drop)]
 pub struct OpenHighs {
     pub highs: IndexedHeap<KeptHigh>,
+    pub ties: Ties,
 }
 
 impl OpenHighs {
     /// Before any access, with room for so many seen objects. No other call takes memory.
-    pub fn make(alloc: Global, room: u32) -> Result<OpenHighs, Memory>
+    pub fn make(alloc: Global, lists: u8, room: u32) -> Result<OpenHighs, Memory>
         requires { room ≤ MAX_OBJECTS }
         ensures room { IfOk result (λ kept. length kept.highs ≡ room) }
-        ensures kept { IfOk result (λ kept. (e : Tree) (m : ℕ) → AreOpen (value e) m [] kept.highs) }
+        ensures kept { IfOk result (λ kept. (e : Tree) → AreOpen (value e) lists [] kept.highs kept.ties.heaps.items) }
     {
         let Ok(highs) = IndexedHeap::make(alloc, room) else {
             return Err(Memory);
         };
-        Ok(OpenHighs { highs })
+        let Ok(ties) = Ties::make(alloc, lists, room) else {
+            drop(highs);
+            return Err(Memory);
+        };
+        Ok(OpenHighs { highs, ties })
     }
 
     /// Takes note of the access that the transcript was told last, which named this object. A high is computed for
-    /// an object that is new.
+    /// an object that has none.
     ///
-    /// *Cost*: one bound for a new object, and at most a logarithm.
+    /// *Cost*: at most one bound, and at most a logarithm.
     pub fn note(&mut self, expr: &Expr, transcript: &Transcript, object: u32)
         requires lists { transcript.now.lists ≡ list_count expr.now }
         requires agrees { IsConsistent transcript.now }
