@@ -1,6 +1,6 @@
--- Loops over the rows of a page.
-use Rattle.std.proofs.Common.{◌≡◌, ◌<◌, ◌≤◌, ℕ, suc, ◌+◌, List, [], ◌∷◌, ◌++◌, map, length, get_or, drop, Option, Some, None, option_map, option_and_then, refl, sym, ap, subst, ◌∙◌, append_assoc, append-nil, rules, true, false, nat_le, drop-cons, add-one}
-use Rattle.std.proofs.lemmas.List.{map-append, drop_all}
+-- Loops over the values of a page.
+use Rattle.std.proofs.Common.{◌≡◌, ◌<◌, ◌≤◌, ℕ, suc, ◌+◌, List, [], ◌∷◌, ◌++◌, length, get_or, drop, Option, Some, None, option_map, option_and_then, refl, sym, ap, ◌∙◌, append_assoc, append-nil, rules, true, false, nat_le, drop-cons, add-one}
+use Rattle.std.proofs.lemmas.List.{drop_all}
 use Rattle.topk_base.specs.declared.TheConstants.{MAX_PAGE}
 use Rattle.serde_json.specs.Events.{items_len}
 use Rattle.serde_json.proofs.Views.{items_len-items_view}
@@ -8,24 +8,11 @@ use Rattle.ranked_list.specs.declared.row.Row.{Row}
 use Rattle.serde_json.specs.View.{view, items_view}
 use Rattle.serde_json.specs.declared.value.Value.{Value}
 use Rattle.page_json.specs.Bodies.{row_of, pair_of, rows_of, few}
-use Rattle.page_json.specs.Written.{row_value}
-use Rattle.page_json.specs.Going.{ReadBack, AreBuilt, AreRead}
+use Rattle.page_json.specs.Going.{AreRead}
 
 -- what stands from a place on is the item there and what stands behind it
-from_here : {A : Type 0} (xs : List A) (i : ℕ) (x d : A) → i < length xs → x ≡ get_or xs i d → drop i xs ≡ x ∷ drop (i + 1) xs
+pub from_here : {A : Type 0} (xs : List A) (i : ℕ) (x d : A) → i < length xs → x ≡ get_or xs i d → drop i xs ≡ x ∷ drop (i + 1) xs
 from_here xs i x d below is = drop-cons xs i d below ∙ ap (λ y. y ∷ drop (suc i) xs) (sym is) ∙ ap (λ n. x ∷ drop n xs) (sym (add-one i))
-
-pub one_back : (row : Row) (rows : List Row) → row_of (row_value row) ≡ Some row → ReadBack rows → ReadBack (row ∷ rows)
-one_back row rows one back = rw (one, back)
-
-pub built_more : (built : List Value) (rows : List Row) (i : ℕ) (row blank : Row) (value : Value) → i < length rows → row ≡ get_or rows i blank → view value ≡ row_value row → row_of (row_value row) ≡ Some row
-    → AreBuilt built rows i → AreBuilt (built ++ value ∷ []) rows (i + 1)
-built_more built rows i row blank value below here is one so =
-    let e : drop i rows ≡ row ∷ drop (i + 1) rows = from_here rows i row blank below here in
-    let f : map view (built ++ value ∷ []) ++ map row_value (drop (i + 1) rows) ≡ map view built ++ map row_value (drop i rows) =
-    ap (λ front. front ++ map row_value (drop (i + 1) rows)) (map-append view built (value ∷ [])) ∙ append_assoc (map view built) (view value ∷ []) _
-    ∙ ap (λ v. map view built ++ v ∷ map row_value (drop (i + 1) rows)) is ∙ ap (λ rest. map view built ++ map row_value rest) (sym e) in
-    (f ∙ so.0, λ back. so.1 (subst ReadBack (sym e) (one_back row (drop (i + 1) rows) one back)))
 
 prepended : (rows : List Row) (row : Row) (more : Option (List Row)) → option_map (λ later. (rows ++ row ∷ []) ++ later) more ≡ option_map (λ later. rows ++ later) (option_map (λ later. row ∷ later) more)
 prepended rows row None = refl
@@ -45,14 +32,6 @@ read_stops rows values i value below here is so =
     let e : drop i values ≡ value ∷ drop (i + 1) values = from_here values i value value below here in
     let f : option_map (λ later. rows ++ later) (rows_of (items_view (drop i values))) ≡ None = rw (e, sym is) in
     sym so ∙ f
-
-pub built_start : (built : List Value) (rows : List Row) → built ≡ [] → AreBuilt built rows 0
-built_start built rows none = (ap (λ v. map view v ++ map row_value rows) none, λ back. back)
-
-pub built_end : (built : List Value) (rows : List Row) (i : ℕ) → length rows ≤ i → AreBuilt built rows i → (map view built ≡ map row_value rows) × ReadBack rows
-built_end built rows i past so =
-    let e : drop i rows ≡ [] = drop_all i rows past in
-    (sym (append-nil (map view built)) ∙ ap (λ rest. map view built ++ map row_value rest) (sym e) ∙ so.0, so.1 (subst ReadBack (sym e) refl))
 
 nothing_first : (more : Option (List Row)) → option_map (λ later. [] ++ later) more ≡ more
 nothing_first None = refl

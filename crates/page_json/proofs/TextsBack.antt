@@ -24,10 +24,8 @@ use Rattle.serde_json.proofs.OnLiterals.{serde_json_on_literals}
 use Rattle.serde_json.proofs.Texts.{print-outline}
 use Rattle.page_json.specs.declared.object.Versioned.{Versioned}
 use Rattle.page_json.specs.Bodies.{IsBody, within, row_of, size_of, page_of, grade_of, grade_in, Fits}
-use Rattle.page_json.specs.Going.{ReadBack}
 use Rattle.page_json.specs.Texts.{version_text, size_text, page_text, grade_text, row_text, grade_or_null}
-use Rattle.page_json.specs.Written.{number_value, body_value, row_value, rows_value, grade_value}
-use Rattle.page_json.proofs.Loops.{one_back}
+use Rattle.page_json.proofs.Written.{number_value, body_value, row_value, rows_value, grade_value, ReadBack}
 use Rattle.page_json.proofs.ReadBack.{size_back, page_back, grade_back, list_back}
 use Rattle.page_json.proofs.WrittenTexts.{text_of_size, text_of_page, text_of_grade}
 
@@ -94,7 +92,7 @@ row_back row fits = rw (within_true (2 ^ 32) row.object fits.0, within_true (2 ^
 
 rows_back : (rows : List Row) → All Fits rows → ReadBack rows
 rows_back [] fit = refl
-rows_back (row ∷ rows) fit = one_back row rows (row_back row (All-head Fits row rows fit)) (rows_back rows (All-tail Fits row rows fit))
+rows_back (row ∷ rows) fit = rw (row_back row (All-head Fits row rows fit), rows_back rows (All-tail Fits row rows fit))
 
 -- ---- UTF-8
 

@@ -1,14 +1,13 @@
 -- The texts of the JSON values that are written.
-use Rattle.std.proofs.Common.{◌≡◌, ℕ, zero, suc, List, [], ◌∷◌, ◌++◌, false, Option, Some, None, Result, Ok, Err, IfOk, map, codes, decimal, refl, sym, ap, ap₂, ◌∙◌, append_assoc}
+use Rattle.std.proofs.Common.{◌≡◌, ℕ, zero, suc, List, [], ◌∷◌, ◌++◌, false, Option, Some, None, map, codes, decimal, refl, sym, ap, ap₂, ◌∙◌, append_assoc}
 use Rattle.std.specs.List.{join_with_byte}
-use Rattle.std.specs.Global.{Vec}
 use Rattle.ranked_list.specs.declared.row.Row.{Row}
 use Rattle.serde_json.specs.Data.{Data}
 use Rattle.serde_json.specs.View.{items_of}
-use Rattle.serde_json.specs.Written.{compact_text, items_text, has_float, items_have_float}
+use Rattle.serde_json.specs.Written.{compact_text, items_text}
 use Rattle.serde_json.proofs.OnLiterals.{serde_json_on_literals}
 use Rattle.page_json.specs.Texts.{version_text, size_text, row_text, page_text, grade_text}
-use Rattle.page_json.specs.Written.{number_value, body_value, row_value, rows_value, grade_value}
+use Rattle.page_json.proofs.Written.{number_value, body_value, row_value, rows_value, grade_value}
 
 pub count_text : (value : Data) (version : ℕ) → compact_text (body_value (codes "count") value version) ≡ codes "{\"count\":" ++ (compact_text value ++ version_text version)
 unfolding serde_json_on_literals
@@ -53,38 +52,3 @@ pub text_of_page : (version : ℕ) (rows : List Row) → compact_text (body_valu
 text_of_page version rows =
     rows_text (rows_value rows) version ∙ ap (λ text. codes "{\"rows\":[" ++ (text ++ version_text version)) (items_joined rows)
     ∙ three (codes "{\"rows\":[") (join_with_byte 44 (map row_text rows)) (codes "]") (version_text version)
-
--- ---- none has a float
-
-pub float_count : (value : Data) (version : ℕ) → has_float value ≡ false → has_float (body_value (codes "count") value version) ≡ false
-unfolding serde_json_on_literals
-float_count value zero plain = rw plain
-float_count value (suc n) plain = rw plain
-
-pub float_rows : (value : Data) (version : ℕ) → has_float value ≡ false → has_float (body_value (codes "rows") value version) ≡ false
-unfolding serde_json_on_literals
-float_rows value zero plain = rw plain
-float_rows value (suc n) plain = rw plain
-
-pub float_grade : (value : Data) (version : ℕ) → has_float value ≡ false → has_float (body_value (codes "grade") value version) ≡ false
-unfolding serde_json_on_literals
-float_grade value zero plain = rw plain
-float_grade value (suc n) plain = rw plain
-
-pub rows_no_float : (rows : List Row) → items_have_float (items_of (map row_value rows)) ≡ false
-rows_no_float [] = refl
-rows_no_float (row ∷ rows) = rows_no_float rows
-
-pub grade_no_float : (grade : Option ℕ) → has_float (grade_value grade) ≡ false
-grade_no_float None = refl
-grade_no_float (Some grade) = refl
-
--- ---- what a call that writes such a value gives
-
-pub spelled : {E : Type 0} (r : Result (Vec ℕ) E) (key : List ℕ) (value other : Data) (version : ℕ) (text : List ℕ) → value ≡ other → has_float (body_value key other version) ≡ false
-    → compact_text (body_value key other version) ≡ text
-    → IfOk r (λ bytes. has_float (body_value key value version) ≡ false → bytes.items ≡ compact_text (body_value key value version))
-    → IfOk r (λ bytes. bytes.items ≡ text)
-spelled (Ok bytes) key value other version text same whole is wrote =
-    wrote (ap (λ v. has_float (body_value key v version)) same ∙ whole) ∙ ap (λ v. compact_text (body_value key v version)) same ∙ is
-spelled (Err fault) key value other version text same whole is wrote = tt

@@ -1,18 +1,18 @@
 //! The body that says which grade an object has.
 
-ghost use Rattle.std.specs.Prelude.{◌≡◌, ℕ, Option, Some, Err, IfOk};
+ghost use Rattle.std.specs.Prelude.{◌≡◌, ◌<◌, ◌^◌, ◌++◌, ℕ, Option, Err, IfOk, IfSome, OnOk};
 ghost use Rattle.serde_json.specs.View.{view};
 ghost use Rattle.page_json.specs.declared.fault.JsonFault.TheVariants.{NotABody};
 ghost use Rattle.page_json.specs.declared.object.Versioned.{Versioned};
 ghost use Rattle.page_json.specs.Bodies.{IsGradeBody, grade_of, grade_in as grade_of_value, whole_32};
-ghost use Rattle.page_json.specs.Texts.{grade_text};
-ghost use Rattle.page_json.specs.Written.{grade_value};
+ghost use Rattle.page_json.specs.Texts.{grade_text, grade_or_null};
 
 use super::Memory;
 use super::fault::JsonFault;
-use super::object::{Versioned, value_of, version_in, write_object};
+use super::object::{Versioned, value_of, version_in};
+use super::parts::{end_body, put_number};
 use serde_json::Value;
-use std::alloc::Global;
+use std::alloc::{AllocError, Global};
 
 /// The body that says which grade an object has at a version: `{"grade":500,"version":7}`, and
 /// `{"grade":500}` at version 0; `null` stands for None, where the list hasn't the object.
@@ -20,17 +20,20 @@ pub fn write_grade(alloc: Global, version: u64, grade: Option<u32>) -> Result<Ve
     ensures text { IfOk result (λ bytes. bytes.items ≡ grade_text version grade) }
     ensures reads_back { IfOk result (λ bytes. IsGradeBody bytes.items (record { version = version; body = grade })) }
 {
-    write_object(alloc, "grade", value_of_grade(grade), version)
+    let mut text = Vec::from_slice(alloc, b"{\"grade\":")?;
+    put_grade(&mut text, grade)?;
+    end_body(&mut text, version)?;
+    Ok(text)
 }
 
-/// A grade, or `null` for None.
-fn value_of_grade(grade: Option<u32>) -> Value
-    ensures value { view result ≡ grade_value grade }
-    ensures reads_back { grade_of_value (grade_value grade) ≡ Some grade }
+/// Adds a grade to a text, or `null` for None.
+fn put_grade(text: &mut Vec<u8>, grade: Option<u32>) -> Result<(), AllocError>
+    ensures text { OnOk result (text.new.items ≡ text.old.items ++ grade_or_null grade) }
+    ensures fits { IfSome grade (λ g. g < 2 ^ 32) }
 {
     match grade {
-        Some(grade) => Value::from(grade),
-        None => Value::Null,
+        Some(grade) => put_number(text, grade),
+        None => text.extend_from_slice(b"null"),
     }
 }
 

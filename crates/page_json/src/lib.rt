@@ -6,6 +6,7 @@ mod grade;
 mod laws;
 mod object;
 mod page;
+mod parts;
 mod size;
 
 pub use fault::JsonFault;

@@ -1,24 +1,24 @@
 //! The body that says a page of a list's rows.
 
-ghost use Rattle.std.specs.Prelude.{◌≡◌, ◌≤◌, List, Some, None, Err, IfOk, OnOk, length, codes, option_and_then};
+ghost use Rattle.std.specs.Prelude.{◌≡◌, ◌≤◌, ◌++◌, List, Some, None, Err, IfOk, OnOk, All, length, map, codes, option_and_then};
+ghost use Rattle.std.specs.List.{join_with_byte};
 ghost use Rattle.topk_base.specs.declared.TheConstants.{MAX_PAGE};
 ghost use Rattle.ranked_list.specs.declared.row.Row.{Row};
 ghost use Rattle.serde_json.specs.Find.{get};
 ghost use Rattle.serde_json.specs.View.{view, items_view};
 ghost use Rattle.page_json.specs.declared.fault.JsonFault.TheVariants.{NotABody};
 ghost use Rattle.page_json.specs.declared.object.Versioned.{Versioned};
-ghost use Rattle.page_json.specs.Bodies.{IsPageBody, page_of, list_of, rows_of, row_of};
-ghost use Rattle.page_json.specs.Going.{ReadBack};
-ghost use Rattle.page_json.specs.Texts.{page_text};
-ghost use Rattle.page_json.specs.Written.{rows_value, row_value};
+ghost use Rattle.page_json.specs.Bodies.{IsPageBody, Fits, page_of, list_of, rows_of, row_of};
+ghost use Rattle.page_json.specs.Texts.{page_text, row_text};
 
 use super::Memory;
 use super::fault::JsonFault;
 use super::grade::number_in;
-use super::object::{Versioned, value_of, version_in, write_object};
+use super::object::{Versioned, value_of, version_in};
+use super::parts::{end_body, put_number};
 use ranked_list::Row;
-use serde_json::{Value, json};
-use std::alloc::Global;
+use serde_json::Value;
+use std::alloc::{AllocError, Global};
 use topk_base::MAX_PAGE;
 
 /// The body that says rows of a list at a version, each as its object and its grade:
@@ -27,28 +27,39 @@ pub fn write_page(alloc: Global, version: u64, rows: &[Row]) -> Result<Vec<u8>, 
     ensures text { IfOk result (λ bytes. bytes.items ≡ page_text version rows.now) }
     ensures reads_back { length rows.now ≤ MAX_PAGE → IfOk result (λ bytes. IsPageBody bytes.items (record { version = version; body = rows.now })) }
 {
-    let list = value_of_rows(alloc, rows)?;
-    write_object(alloc, "rows", list, version)
+    let mut text = Vec::from_slice(alloc, b"{\"rows\":[")?;
+    put_rows(&mut text, rows)?;
+    text.push(b']')?;
+    end_body(&mut text, version)?;
+    Ok(text)
 }
 
-/// An array of rows.
-fn value_of_rows(alloc: Global, rows: &[Row]) -> Result<Value, Memory>
-    ensures value { IfOk result (λ v. view v ≡ rows_value rows.now) }
-    ensures reads_back { OnOk result (ReadBack rows.now) }
+/// Adds rows to a text, with commas between them.
+fn put_rows(text: &mut Vec<u8>, rows: &[Row]) -> Result<(), AllocError>
+    ensures text { OnOk result (text.new.items ≡ text.old.items ++ join_with_byte 44 (map row_text rows.now)) }
+    ensures fit { OnOk result (All Fits rows.now) }
 {
-    let mut list = Vec::with_capacity(alloc, rows.len())?;
-    for row in rows {
-        list.push_reserved(value_of_row(alloc, *row)?);
+    let Some((first, others)) = rows.split_first() else {
+        return Ok(());
+    };
+    put_row(text, *first)?;
+    for row in others {
+        text.push(b',')?;
+        put_row(text, *row)?;
     }
-    Ok(Value::Array(list))
+    Ok(())
 }
 
-/// An array of a row's object and grade.
-fn value_of_row(alloc: Global, row: Row) -> Result<Value, Memory>
-    ensures value { IfOk result (λ v. view v ≡ row_value row) }
-    ensures reads_back { row_of (row_value row) ≡ Some row }
+/// Adds a row to a text.
+fn put_row(text: &mut Vec<u8>, row: Row) -> Result<(), AllocError>
+    ensures text { OnOk result (text.new.items ≡ text.old.items ++ row_text row) }
+    ensures fits { Fits row }
 {
-    Ok(json!(in alloc; [row.object, row.grade])?)
+    text.push(b'[')?;
+    put_number(text, row.object)?;
+    text.push(b',')?;
+    put_number(text, row.grade)?;
+    Ok(text.push(b']')?)
 }
 
 /// The rows that a body says, and at which version: an object in JSON (RFC 8259) whose `rows` is an

@@ -9,7 +9,8 @@ ghost use Rattle.page_json.specs.Texts.{size_text};
 
 use super::Memory;
 use super::fault::JsonFault;
-use super::object::{Versioned, value_of, version_in, write_object};
+use super::object::{Versioned, value_of, version_in};
+use super::parts::{end_body, put_number};
 use serde_json::Value;
 use std::alloc::Global;
 
@@ -19,7 +20,10 @@ pub fn write_size(alloc: Global, version: u64, count: u64) -> Result<Vec<u8>, Me
     ensures text { IfOk result (λ bytes. bytes.items ≡ size_text version count) }
     ensures reads_back { IfOk result (λ bytes. IsSizeBody bytes.items (record { version = version; body = count })) }
 {
-    write_object(alloc, "count", Value::from(count), version)
+    let mut text = Vec::from_slice(alloc, b"{\"count\":")?;
+    put_number(&mut text, count)?;
+    end_body(&mut text, version)?;
+    Ok(text)
 }
 
 /// How many rows a list has by a body, and at which version: an object in JSON (RFC 8259) whose

@@ -1,10 +1,10 @@
-use Rattle.std.proofs.Common.{codes}
-use Rattle.page_json.specs.Written.{grade_value}
-use Rattle.page_json.proofs.WrittenTexts.{spelled, float_grade, grade_no_float, text_of_grade}
+use Rattle.std.proofs.Common.{◌≡◌, subst, sym, rules}
+use Rattle.page_json.specs.Bodies.{IsGradeBody}
+use Rattle.page_json.specs.Texts.{grade_text}
+use Rattle.page_json.proofs.TextsBack.{grade_reads_back}
 use Rattle.page_json.proofs.grade.write_grade.Goals as goal
 
-pub returns-clause-text : goal.returns-clause-text
-returns-clause-text c =
-    let value = grade_value c.args.grade in
-    spelled c.write_object.result (codes "grade") _ value c.args.version _ c.value_of_grade.ensures.value (float_grade value c.args.version (grade_no_float c.args.grade)) (text_of_grade c.args.version c.args.grade)
-    c.write_object.ensures.text
+pub returns-clause-reads_back : goal.returns-clause-reads_back
+returns-clause-reads_back c =
+    let is : c.end_body.new.text.items ≡ grade_text c.args.version c.args.grade = search rules in
+    subst (λ bytes. IsGradeBody bytes (record { version = c.args.version; body = c.args.grade })) (sym is) (grade_reads_back c.args.version c.args.grade c.ranges.version.fits c.put_grade.ensures.fits)

@@ -1,9 +1,10 @@
-use Rattle.page_json.specs.Written.{number_value}
-use Rattle.std.proofs.Common.{codes, refl}
-use Rattle.page_json.proofs.WrittenTexts.{spelled, float_count, text_of_size}
+use Rattle.std.proofs.Common.{◌≡◌, subst, sym, rules}
+use Rattle.page_json.specs.Bodies.{IsSizeBody}
+use Rattle.page_json.specs.Texts.{size_text}
+use Rattle.page_json.proofs.TextsBack.{size_reads_back}
 use Rattle.page_json.proofs.size.write_size.Goals as goal
 
-pub returns-clause-text : goal.returns-clause-text
-returns-clause-text c =
-    spelled c.write_object.result (codes "count") _ (number_value c.args.count) c.args.version _ c.from.ensures (float_count (number_value c.args.count) c.args.version refl) (text_of_size c.args.version c.args.count)
-    c.write_object.ensures.text
+pub returns-clause-reads_back : goal.returns-clause-reads_back
+returns-clause-reads_back c =
+    let is : c.end_body.new.text.items ≡ size_text c.args.version c.args.count = search rules in
+    subst (λ bytes. IsSizeBody bytes (record { version = c.args.version; body = c.args.count })) (sym is) (size_reads_back c.args.version c.args.count c.ranges.version.fits c.ranges.count.fits)

@@ -1,8 +1,9 @@
--- The JSON values that are written as bodies.
-use Rattle.std.specs.Prelude.{ℕ, zero, suc, List, map, codes, Option, None, Some}
+-- The JSON values whose texts the bodies are.
+use Rattle.std.specs.Prelude.{◌≡◌, ℕ, zero, suc, List, map, codes, Option, None, Some}
 use Rattle.ranked_list.specs.declared.row.Row.{Row}
 use Rattle.serde_json.specs.Data.{Data, null, number, unsigned, array, object, no_items, item, Members, no_members, member, put}
 use Rattle.serde_json.specs.View.{items_of}
+use Rattle.page_json.specs.Bodies.{rows_of}
 
 -- a whole number
 abbrev pub number_value : ℕ → Data
@@ -29,3 +30,7 @@ rows_value rows = array (items_of (map row_value rows))
 abbrev pub grade_value : Option ℕ → Data
 grade_value None = null
 grade_value (Some grade) = number_value grade
+
+-- these rows are read of their array
+abbrev pub ReadBack : List Row → Type 0
+ReadBack rows = rows_of (items_of (map row_value rows)) ≡ Some rows
