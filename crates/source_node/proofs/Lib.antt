@@ -4,3 +4,5 @@ pub mod ReplyBack
 pub mod BodyLaws
 -- Lemmas on links that are served one after another.
 pub mod ServingLaws
+-- Of which list each link is.
+pub mod EachLaws

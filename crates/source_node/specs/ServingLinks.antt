@@ -57,6 +57,12 @@ ServesEach name version links links_now source source_now (one ∷ more) =
     (next : Option (List (List ℕ))) × (after : Seen) × ServesLink name version links next source after one
     × ServesEach name version next links_now after source_now more
 
+-- a link was served of the list that this source tells, and of the version that it states
+abbrev pub IsServedOf : List ℕ → Option ℕ → Seen → Closed → Type 0
+IsServedOf name version source one =
+    (links links_now : Option (List (List ℕ))) × (before now : Seen) × (before.list ≡ source.list) × (before.states ≡ source.states)
+    × ServesLink name version links links_now before now one
+
 -- these links were given back, in this order, where it is told
 abbrev pub ClosesAll : Option (List Closed) → Option (List Closed) → List Closed → Type 0
 ClosesAll None closed_now ones = ⊤

@@ -13,7 +13,7 @@ mod serving;
 
 pub use answer::Answer;
 pub use asked::{Asked, asked_of};
-pub use laws::{a_body_says_its_answer, an_answer_is_read};
+pub use laws::{a_body_says_its_answer, an_answer_is_read, each_link_is_of_one_list};
 pub use node::node_conn;
 pub use routes::ListRoutes;
 pub use serving::{Served, serve_links};
