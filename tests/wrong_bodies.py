@@ -1,13 +1,14 @@
 #!/usr/bin/env python3
 """Wrong bodies that the prover must refuse, beside those in the crates' `must-fail/`, which the gate tries each time.
 
-Use, from anywhere: python3 tests/wrong_bodies.py [--anew] [CRATE ..]      all crates where none is named
+Use, from anywhere: python3 tests/wrong_bodies.py [--anew | --stale] [CRATE ..]      all crates where none is named
 
 A folder of wrong_bodies/ is a crate's, each file one edit as `rt must-fail` reads it. They are tried on a copy of the
 tree. The first edit of a crate takes as long as a check of it, each further one some 10 to 30 s, so all take more than
 an hour. What was refused is written into wrong_bodies/tried.txt with its day and a checksum of what it rests on: the
 text of the crate, the statements (src and specs) of the crates below it, and the edit. While that stays the same it
-isn't tried again, but with --anew. Ends with the status 0 exactly where each was refused, now or by its record.
+isn't tried again, but with --anew. Ends with the status 0 exactly where each was refused, now or by its record. With
+--stale none is tried: those without a record that holds are printed, and where there is one the status is 1.
 
 tests/run.py says which edits can't be applied to the text of their crate, also those of the gate, and notes how many
 have no record that holds.
@@ -71,11 +72,10 @@ def must_fail_apply(_: str) -> str | None:
 
 def wrong_bodies_tried(_: str) -> str | None:
     """Notes how many wrong bodies have no record that holds. That is no failure: all are tried before a release."""
-    kept, edits = records(), sorted(BODIES.glob("*/*.edit"))
-    stale = sum(not holds(edit, kept) for edit in edits)
-    if stale:
-        print(f"note: {stale} of {len(edits)} wrong bodies weren't tried on this text: `make wrong-bodies` tries them",
-              file=sys.__stdout__)
+    number = len(stale("*"))
+    if number:
+        print(f"note: {number} of {len(list(BODIES.glob('*/*.edit')))} wrong bodies weren't tried on this text: "
+              "`make wrong-bodies` tries them", file=sys.__stdout__)
     return None
 
 
@@ -102,6 +102,12 @@ def name_of(edit: pathlib.Path) -> str:
 def holds(edit: pathlib.Path, kept: Mapping[str, tuple[str, str]]) -> bool:
     """Whether an edit was refused on this text."""
     return kept.get(name_of(edit), ("", ""))[0] == checksum_of(edit)
+
+
+def stale(name: str) -> list[pathlib.Path]:
+    """The edits of a crate, of all by *, that have no record that holds."""
+    kept = records()
+    return [it for it in sorted(BODIES.glob(f"{name}/*.edit")) if not holds(it, kept)]
 
 
 @functools.lru_cache(None)
@@ -166,7 +172,7 @@ def try_all(names: Iterable[str], anew: bool) -> list[str]:
     with tempfile.TemporaryDirectory() as place:
         copy_tree(pathlib.Path(place))
         for name in names:
-            edits = [it for it in sorted((BODIES / name).glob("*.edit")) if anew or not holds(it, kept)]
+            edits = sorted((BODIES / name).glob("*.edit")) if anew else stale(name)
             if edits and not refuses(pathlib.Path(place), name, edits):
                 failed.append(name)
                 continue
@@ -179,12 +185,18 @@ def main() -> int:
     """Tries the wrong bodies that the words name, and answers the status."""
     known = sorted(it.name for it in BODIES.iterdir() if it.is_dir())
     parser = argparse.ArgumentParser(description="Wrong bodies that the prover must refuse.")
-    parser.add_argument("--anew", action="store_true", help="try those too that were refused on this text")
+    which = parser.add_mutually_exclusive_group()
+    which.add_argument("--anew", action="store_true", help="try those too that were refused on this text")
+    which.add_argument("--stale", action="store_true", help="try none, and print those without a record that holds")
     parser.add_argument("crates", nargs="*", metavar="CRATE", help=f"all if none is named: {', '.join(known)}")
     given = parser.parse_args()
     unknown = sorted(set(given.crates) - set(known))
     if unknown:
         parser.error(f"no wrong bodies of {', '.join(unknown)}")
+    if given.stale:
+        left = [name_of(edit) for name in given.crates or known for edit in stale(name)]
+        print("\n".join(left) or "each has a record that holds")
+        return 1 if left else 0
     failed = try_all(given.crates or known, given.anew)
     print(f"not refused, or not tried: {' '.join(failed)}" if failed else "each was refused")
     return 1 if failed else 0
