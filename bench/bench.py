@@ -17,6 +17,8 @@ number of rows and of workers the accesses of all queries, the seconds of the pr
 memory, beside 16 bytes for each access, which is what the transcripts need at the least.
 """
 
+from __future__ import annotations
+
 import argparse
 import os
 import resource
@@ -25,7 +27,11 @@ import subprocess
 import sys
 import tempfile
 import time
+from collections.abc import Callable, Sequence
 from dataclasses import dataclass
+from typing import IO, Optional, Union
+
+from parts import numbers, row
 
 PROGRAM = "./topk"
 START = 1
@@ -51,13 +57,13 @@ class Run:
     text: bytes
 
 
-def run(words, source, timeout):
+def run(words: Sequence[str], source: Union[int, IO[bytes]], timeout: int) -> Optional[Run]:
     """Runs the program on an input, or gives None where it takes longer than the timeout."""
     with tempfile.TemporaryFile() as out, tempfile.NamedTemporaryFile() as counted:
         starter = [TIME, "-f", "%M", "-o", counted.name] if TIME else []
         began = time.monotonic()
         child = subprocess.Popen(
-            starter + [PROGRAM] + words,
+            [*starter, PROGRAM, *words],
             stdin=source,
             stdout=out,
             preexec_fn=lambda: resource.setrlimit(resource.RLIMIT_CPU, (timeout, timeout)),
@@ -73,13 +79,13 @@ def run(words, source, timeout):
     return Run(used.ru_utime + used.ru_stime, clock, megabytes, child.returncode, text)
 
 
-def run_one(bundle, timeout):
+def run_one(bundle: str, timeout: int) -> Optional[Run]:
     """Runs `topk one` over a bundle."""
     with open(bundle, "rb") as source:
         return run(["one"], source, timeout)
 
 
-def least(once, rounds):
+def least(once: Callable[[], Optional[Run]], rounds: int) -> Optional[Run]:
     """The run that took the least time, or None where one took longer than the timeout."""
     best = None
     for _ in range(rounds):
@@ -91,41 +97,37 @@ def least(once, rounds):
     return best
 
 
-def fastest(bundle, rounds, timeout):
+def fastest(bundle: str, rounds: int, timeout: int) -> Optional[Run]:
     """The run over a bundle that took the least time."""
     return least(lambda: run_one(bundle, timeout), rounds)
 
 
-def accesses(text):
-    """The numbers of accesses of a certificate: `stop depth D sorted S random R cost C`."""
-    for line in text.splitlines():
-        words = line.split()
-        if words and words[0] == b"stop":
-            return int(words[4]) + int(words[6])
-    return None
+def accesses(text: bytes) -> int:
+    """The accesses of `stop depth D sorted S random R cost C`, or of `bulk .. sorted S random R values V`."""
+    words = text.split()
+    return int(words[words.index(b"sorted") + 1]) + int(words[words.index(b"random") + 1])
 
 
-def write_bundle(path, table, text):
+def write_bundle(path: str, table: bytes, text: str) -> None:
+    """Writes a bundle of a table and a query."""
     with open(path, "wb") as bundle:
         bundle.write(table + f"query {text}\n".encode())
 
 
-def made_table(count, lists):
+def made_table(count: int, lists: int) -> bytes:
+    """A made table, as the lists of a bundle."""
     words = [PROGRAM, "make", "--start", str(START), "--count", str(count), "--lists", str(lists)]
     return subprocess.run(words, stdout=subprocess.PIPE, check=True).stdout
 
 
-def query(k, expression, algorithm, costs):
+def query(k: int, expression: str, algorithm: str, costs: Sequence[int]) -> str:
     """A query's text. Only the combined algorithm follows the costs."""
     told = f" cost {costs[0]} {costs[1]}" if algorithm == "ca" else ""
     return f"top {k} by {expression} using {algorithm}{told}"
 
 
-def row(cells):
-    print("| " + " | ".join(cells) + " |", flush=True)
-
-
-def measure(arguments, folder, lists, count, slow):
+def measure(arguments: argparse.Namespace, folder: str, lists: int, count: int,
+            slow: set[tuple[str, str, int]]) -> None:
     """A row for each query over one table."""
     path = os.path.join(folder, "bundle")
     rounds = arguments.rounds * max(1, 20_000 // count)
@@ -139,73 +141,65 @@ def measure(arguments, folder, lists, count, slow):
                 continue
             write_bundle(path, table, query(min(K, count), f"{operator}({names})", algorithm, arguments.costs))
             best = fastest(path, rounds, arguments.timeout)
-            cells = [algorithm, operator, str(lists), str(count)]
+            cells = (algorithm, operator, lists, count)
             if best is None:
                 slow.add((algorithm, operator, lists))
-                row(cells + ["", f"over {arguments.timeout}", "", ""])
+                row(*cells, "", f"over {arguments.timeout}", "", "")
                 continue
             if best.status != 0:
                 sys.exit(f"{cells} ended with {best.status}: {best.text[:80]}")
             made = accesses(best.text)
             seconds = max(best.seconds - reading, 0.0)
             each = f"{seconds * 1_000_000 / made:.2f}"
-            row(cells + [str(made), f"{seconds:.3f}", each, best.megabytes])
+            row(*cells, made, f"{seconds:.3f}", each, best.megabytes)
 
 
-def bulk_accesses(text):
-    """The accesses of `bulk queries N answered N depth D sorted S random R values V`."""
-    words = text.split()
-    return int(words[words.index(b"sorted") + 1]) + int(words[words.index(b"random") + 1])
-
-
-def measure_bulk(arguments, count, workers):
+def measure_bulk(arguments: argparse.Namespace, count: int, workers: int) -> None:
     """A row for the made queries over one table."""
     words = ["bulk", "--start", str(BULK_START), "--count", str(count), "--lists", str(arguments.bulk_lists)]
     words += ["--queries", str(arguments.queries), "--workers", str(workers)]
     rounds = arguments.rounds * max(1, 20_000 // count)
     best = least(lambda: run(words, subprocess.DEVNULL, arguments.timeout), rounds)
-    cells = [str(arguments.queries), str(arguments.bulk_lists), str(count), str(workers)]
+    cells = (arguments.queries, arguments.bulk_lists, count, workers)
     if best is None:
-        row(cells + ["", f"over {arguments.timeout}", "", "", "", ""])
+        row(*cells, "", f"over {arguments.timeout}", "", "", "", "")
         return
     if best.status != 0:
         sys.exit(f"{cells} ended with {best.status}: {best.text[:80]}")
-    made = bulk_accesses(best.text)
+    made = accesses(best.text)
     needs = made * ACCESS_BYTES // 1_000_000
     each = f"{best.seconds * 1_000_000 / made:.2f}"
-    row(cells + [str(made), f"{best.seconds:.2f}", f"{best.clock:.2f}", each, best.megabytes, str(needs)])
+    row(*cells, made, f"{best.seconds:.2f}", f"{best.clock:.2f}", each, best.megabytes, needs)
 
 
-def numbers(text):
-    return [int(word) for word in text.split(",")]
-
-
-def words(text):
+def words(text: str) -> list[str]:
+    """Words with commas between them."""
     return text.split(",")
 
 
-def table_of_one(arguments):
+def table_of_one(arguments: argparse.Namespace) -> None:
     """A row for each algorithm, operator, number of lists and number of rows."""
-    row(["algorithm", "operator", "lists", "rows of a list", "accesses", "seconds", "seconds for a million", "MB"])
-    row(["---"] * 8)
-    slow = set()
+    row("algorithm", "operator", "lists", "rows of a list", "accesses", "seconds", "seconds for a million", "MB")
+    row(*["---"] * 8)
+    slow: set[tuple[str, str, int]] = set()
     with tempfile.TemporaryDirectory() as folder:
         for lists in arguments.lists:
             for count in sorted(arguments.counts):
                 measure(arguments, folder, lists, count, slow)
 
 
-def table_of_bulk(arguments):
+def table_of_bulk(arguments: argparse.Namespace) -> None:
     """A row for each number of rows and of workers."""
     heads = ["queries", "lists", "rows of a list", "workers", "accesses", "seconds", "seconds of the clock"]
-    row(heads + ["seconds for a million", "MB", "MB of accesses"])
-    row(["---"] * 10)
+    row(*heads, "seconds for a million", "MB", "MB of accesses")
+    row(*["---"] * 10)
     for count in sorted(arguments.counts):
         for workers in arguments.workers:
             measure_bulk(arguments, count, workers)
 
 
-def main():
+def main() -> None:
+    """Prints the tables that are asked for."""
     parser = argparse.ArgumentParser(description=__doc__, formatter_class=argparse.RawDescriptionHelpFormatter)
     parser.add_argument("--lists", type=numbers, default=[2, 4, 8])
     parser.add_argument("--counts", type=numbers, default=[2_000, 20_000, 200_000])

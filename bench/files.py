@@ -25,14 +25,11 @@ import time
 from collections.abc import Callable, Iterator, Mapping, Sequence
 from typing import Any
 
+from parts import numbers, row
+
 HERE = pathlib.Path(__file__).resolve().parent
 START, K = 7, 10
 ALGORITHMS = ("ta", "nra", "ca cost 1 10")
-
-
-def row(*cells: object) -> None:
-    """Prints a row of a table."""
-    print("| " + " | ".join(map(str, cells)) + " |", flush=True)
 
 
 def timed(words: Sequence[str], data: bytes = b"", **how: Any) -> tuple[float, bytes]:
@@ -123,11 +120,6 @@ def many_lines(program: str, place: pathlib.Path, names: Sequence[str],
 
     best = least(given.rounds, {it: functools.partial(by, it) for it in given.workers})
     return [(it, best[it], calls(program, place, lines, it)) for it in given.workers]
-
-
-def numbers(text: str) -> list[int]:
-    """Numbers with commas between them."""
-    return [int(word) for word in text.split(",")]
 
 
 def main() -> None:

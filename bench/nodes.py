@@ -22,15 +22,10 @@ import time
 from collections.abc import Iterator, Mapping, Sequence
 from typing import Any
 
+from parts import free_port, wait_for
+
 LISTS = 4
 PAGE = 10_000
-
-
-def free_port() -> int:
-    """A port that is free now."""
-    with socket.socket() as port:
-        port.bind(("127.0.0.1", 0))
-        return port.getsockname()[1]
 
 
 def asked(port: int, target: str) -> tuple[Any, int]:
@@ -112,10 +107,7 @@ def served(program: str, names: Sequence[str], folder: pathlib.Path) -> Iterator
             nodes.callback(node.wait)
             nodes.callback(node.kill)
         for port in ports.values():
-            while True:
-                with contextlib.suppress(OSError), socket.create_connection(("127.0.0.1", port)):
-                    break
-                time.sleep(0.05)
+            wait_for(port)
         yield ports
 
 

@@ -14,31 +14,16 @@ import contextlib
 import pathlib
 import re
 import shutil
-import socket
 import subprocess
 import tempfile
-import time
 import urllib.parse
 from collections.abc import Iterator
 from typing import NamedTuple
 
+from parts import free_port, wait_for
+
 HERE = pathlib.Path(__file__).resolve().parent
 HOTELS = HERE.parent / "crates" / "topk" / "data"
-
-
-def free_port() -> int:
-    """A port that is free now."""
-    with socket.socket() as port:
-        port.bind(("127.0.0.1", 0))
-        return port.getsockname()[1]
-
-
-def wait(port: int) -> None:
-    """Waits until somebody listens at a port."""
-    while True:
-        with contextlib.suppress(OSError), socket.create_connection(("127.0.0.1", port)):
-            return
-        time.sleep(0.05)
 
 
 class Rate(NamedTuple):
@@ -71,7 +56,7 @@ def serving(program: str, place: pathlib.Path, workers: int) -> Iterator[tuple[i
     words = [program, "serve", "catalog.csv", "--at", str(port), "--workers", str(workers)]
     process = subprocess.Popen(words, cwd=place, stdout=subprocess.DEVNULL)
     try:
-        wait(port)
+        wait_for(port)
         yield port, process
     finally:
         process.kill()
@@ -98,7 +83,7 @@ def nginx(size: int) -> Iterator[int]:
             encoding="utf-8")
         process = subprocess.Popen(["nginx", "-c", str(folder / "nginx.conf")], stderr=subprocess.DEVNULL)
         try:
-            wait(port)
+            wait_for(port)
             yield port
         finally:
             process.terminate()

@@ -17,7 +17,8 @@ import os
 import subprocess
 import sys
 import time
-from collections.abc import Iterable
+
+from parts import numbers, row
 
 PROGRAM = "./topk"
 START = 7
@@ -50,20 +51,10 @@ def compare(arguments: argparse.Namespace, count: int) -> None:
     print(f"{count} rows: {ways} wrote {first.decode().strip()}", flush=True)
 
 
-def row(cells: Iterable[str]) -> None:
-    """Prints a row of a table."""
-    print("| " + " | ".join(cells) + " |", flush=True)
-
-
 def measure(arguments: argparse.Namespace, count: int) -> None:
     """A row of the seconds with each number of workers."""
     best = [min(bulk(arguments, count, workers)[1] for _ in range(arguments.rounds)) for workers in arguments.timed]
-    row([str(count)] + [f"{seconds:.3f}" for seconds in best])
-
-
-def numbers(text: str) -> list[int]:
-    """Numbers with commas between them."""
-    return [int(word) for word in text.split(",")]
+    row(count, *(f"{seconds:.3f}" for seconds in best))
 
 
 def main() -> None:
@@ -80,8 +71,8 @@ def main() -> None:
     arguments = parser.parse_args()
     for count in arguments.counts:
         compare(arguments, count)
-    row(["rows of a list"] + [f"{workers} worker" + "s" * (workers > 1) for workers in arguments.timed])
-    row(["---"] * (1 + len(arguments.timed)))
+    row("rows of a list", *(f"{workers} worker" + "s" * (workers > 1) for workers in arguments.timed))
+    row(*["---"] * (1 + len(arguments.timed)))
     for count in arguments.counts:
         measure(arguments, count)
     print(f"on {os.cpu_count()} processors", file=sys.stderr)

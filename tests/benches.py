@@ -61,9 +61,9 @@ def runs(program: str, name: str) -> str | None:
 
 
 def each_has_a_size(_: str) -> str | None:
-    """A bench that isn't run here, or None; nodes and reference are used by others, and no file has a name of the
+    """A bench that isn't run here, or None; parts and reference are used by others, and no file has a name of the
     standard library."""
-    there = {path.stem for path in BENCH.glob("*.py")} - {"reference", "make_examples"}
+    there = {path.stem for path in BENCH.glob("*.py")} - {"parts", "reference", "make_examples"}
     names = getattr(sys, "stdlib_module_names", frozenset())
     hidden = sorted(path.name for folder in ("bench", "tests") for path in (REPOSITORY / folder).glob("*.py")
                     if path.stem in names)

@@ -9,11 +9,11 @@ import random
 import re
 import tempfile
 from collections import Counter
-from collections.abc import Callable, Iterator
+from collections.abc import Callable, Iterator, Sequence
 
 from hosts import ALONE, FAILS, LINE, LISTS
 from machine import over_network
-from support import (Host, Lists, Reset, answer, answered, catalog, differs, host, hosting, ranked, run, run_at,
+from support import (Done, Host, Lists, Reset, answer, answered, catalog, differs, host, hosting, ranked, run, run_at,
                      taken_apart, worked_out, write, write_lists)
 
 # A line of each algorithm, the lists that can't be read from the top, and those that a wrong count would show best.
@@ -162,6 +162,13 @@ LIES: dict[str, tuple[Lists, dict[tuple[str, int], int], dict[str, int], list[st
 }
 
 
+def refuses(name: str, done: Done[bytes], refusals: Sequence[str]) -> str | None:
+    """What is wrong with a run each of whose lines is to be refused so, or None."""
+    wanted = "".join(f"refused {it} {text}\n" for it, text in enumerate(refusals, 1))
+    wrong = differs(done, 1, wanted.encode())
+    return wrong and f"{name}: {wrong}"
+
+
 def lies(program: str) -> str | None:
     """What a host serves that is no list of a table is refused by name, with the numbers of the first row at fault."""
     for name, (lists, grades, counts, lines, refusals) in LIES.items():
@@ -175,10 +182,9 @@ def lies(program: str) -> str | None:
 
         with host(lying) as served:
             done = run_at(program, dict.fromkeys(lists, served.port), "\n".join(lines).encode(), *ALONE)
-        wanted = "".join(f"refused {it} {text}\n" for it, text in enumerate(refusals, 1))
-        wrong = differs(done, 1, wanted.encode())
+        wrong = refuses(name, done, refusals)
         if wrong is not None:
-            return f"{name}: {wrong}"
+            return wrong
     return None
 
 
@@ -190,10 +196,9 @@ def lies_of_files(program: str) -> str | None:
         with tempfile.TemporaryDirectory() as place:
             write_lists(place, lists)
             done = run(program, ["run", "catalog.csv", *ALONE], "\n".join(lines).encode(), place)
-        wanted = "".join(f"refused {it} {text}\n" for it, text in enumerate(refusals, 1))
-        wrong = differs(done, 1, wanted.encode())
+        wrong = refuses(name, done, refusals)
         if wrong is not None:
-            return f"{name}: {wrong}"
+            return wrong
     return None
 
 

@@ -289,6 +289,21 @@ WAYS_OF_FLOATS: tuple[tuple[Any, Callable[[Any], Any]], ...] = (
 )
 
 
+def floats_between(made: random.Random, low: float, high: float) -> list[Any]:
+    """Some hundred floats between two, these among them, and some more than once."""
+    values: list[Any] = [
+        made.uniform(low / 2, high / 2) * 2 if abs(low) > 1e300 else made.uniform(low, high) for _ in range(300)
+    ]
+    values[::50] = [low, high, *values[100:500:50][:4]]
+    return values
+
+
+def exact_grades(values: Sequence[float]) -> list[Fraction]:
+    """The grade of each, unrounded, where the greatest is best."""
+    least, span = Fraction(min(values)), Fraction(max(values)) - Fraction(min(values))
+    return [(Fraction(it) - least) / span * MILLION for it in values]
+
+
 def package_floats(program: str) -> str | None:
     """Floats of any size: each grade is as near to the exact one as is stated, and the best by values are in the
     answer up to the bound.
@@ -302,23 +317,14 @@ def package_floats(program: str) -> str | None:
         (5e-324, 1e-320),
         (-1, 2**60),
     ):
-        values: list[Any] = [
-            made.uniform(low / 2, high / 2) * 2 if abs(low) > 1e300 else made.uniform(low, high) for _ in range(300)
-        ]
-        values[::50] = [low, high, *values[100:500:50][:4]]
+        values = floats_between(made, low, high)
         keys = list(range(len(values)))
         table = Table(
             {"key": keys, "x": values, "y": values[::-1]},
             key="key",
             criteria=[criterion("x"), criterion("y", best="low")],
         )
-        exact = [
-            [
-                (Fraction(it) - Fraction(min(values))) / (Fraction(max(values)) - Fraction(min(values))) * MILLION
-                for it in values
-            ]
-        ]
-        exact.append([MILLION - it for it in exact[0][::-1]])
+        exact = [exact_grades(values), [MILLION - it for it in exact_grades(values[::-1])]]
         for name, wanted in zip("xy", exact):
             ranked = table.ranked_list(name)
             if max(abs(grade - it) for grade, it in zip(ranked.grades, wanted)) > ranked.error:
@@ -478,16 +484,6 @@ def package_readers(program: str) -> str | None:
         semicolons = Table.from_csv(path, "id", delimiter=";")
         path.write_bytes(b"id,x\r\na,1\r\nb,2\r\n")
         quick = Table.from_csv(path, "id")
-        faults = []
-        for text, words in (
-            ("", "has no header"),
-            ("id,x\na,1\nb\n", "row 2 has 1 fields"),
-            ("id,x\na,1,2\nb\n", "row 1 has 3 fields"),
-            ('id,x\na,1\n"b",2,3\n', "row 2 has 3 fields"),
-            ("id,id\na,b\n", "two columns are called 'id'"),
-        ):
-            path.write_text(text, encoding="utf-8")
-            faults.append(not_refused([(TableError, words, lambda: Table.from_csv(path, "id"))]))
     cells = [("a,1", 4.5), ('b "q"', None), ("c", 3)]
     others = [
         Table.from_rows([{"id": key, "x": value} for key, value in cells], "id"),
@@ -499,7 +495,7 @@ def package_readers(program: str) -> str | None:
         Table.from_frame({"id": [it for it, _ in cells], "x": [it for _, it in cells]}, "id"),
     ]
     wanted = [key for key, _ in cells]
-    return next(filter(None, faults), None) or first_wrong(
+    return first_wrong(
         [
             *(
                 (f"text {number}", (list(it.keys), list(it.column("x"))), (wanted, [cell for _, cell in rows]))
@@ -518,6 +514,24 @@ def package_readers(program: str) -> str | None:
             ),
         ]
     )
+
+
+def package_no_tables(program: str) -> str | None:
+    """Each text that is no table, by what is said of it."""
+    with tempfile.TemporaryDirectory() as place:
+        path = pathlib.Path(place) / "table.csv"
+        for text, words in (
+            ("", "has no header"),
+            ("id,x\na,1\nb\n", "row 2 has 1 fields"),
+            ("id,x\na,1,2\nb\n", "row 1 has 3 fields"),
+            ('id,x\na,1\n"b",2,3\n', "row 2 has 3 fields"),
+            ("id,id\na,b\n", "two columns are called 'id'"),
+        ):
+            path.write_text(text, encoding="utf-8")
+            wrong = not_refused([(TableError, words, lambda: Table.from_csv(path, "id"))])
+            if wrong is not None:
+                return wrong
+    return None
 
 
 def package_columns_of_numpy(program: str) -> str | None:
@@ -1077,6 +1091,7 @@ def tests() -> Iterator[tuple[str, Callable[[str], str | None]]]:
         package_ties,
         package_keys,
         package_readers,
+        package_no_tables,
         package_columns_of_numpy,
         package_filters,
         package_expressions,
