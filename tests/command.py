@@ -282,15 +282,14 @@ def command_evidence(program: str) -> str | None:
 
 
 def stated_names() -> list[tuple[str, list[str]]]:
-    """The words of each refusal, verdict and status that the sources and the pages state, with their fields."""
+    """The words of each refusal and status that the sources state, with their fields."""
     crates = REPOSITORY / "crates"
     body = re.search(r"pub enum Refusal \{(.*?)\n\}", (crates / "cert_text/src/refusal.rt").read_text(), re.S)
     assert body is not None
     variants = re.findall(r"^ {4}([A-Z]\w*) \{([^}]*)\}", body[1], re.M)
     found = [(name, re.findall(r"(\w+): u", fields)) for name, fields in variants]
-    page = (REPOSITORY / "docs/CERTIFICATE.md").read_text(encoding="utf-8")
-    judging = page[page.index("## What `judge` writes"): page.index("## The other algorithms")]
-    found += [(name, []) for name in re.findall(r"^\| `([A-Z]\w+)", judging, re.M)]
+    judging = (crates / "cert_judge/src/refusal.rt").read_text()
+    found += [(name, []) for name in re.findall(r'RefusalLine::\w+\(\s*b"(\w+)"', judging)]
     statuses = re.findall(r"^ {4}[A-Z]\w+ = ([0-9]+),", (crates / "command_line/src/status.rt").read_text(), re.M)
     found += [(f"status {it}", []) for it in statuses]
     return found

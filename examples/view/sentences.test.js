@@ -13,9 +13,6 @@ const read = (...parts) => fs.readFileSync(path.join(ROOT, ...parts), "utf8");
 const KINDS = ["query", "command", "judge", "inconsistency", "verdict", "status"];
 const keysOf = (kind) => Object.keys(ENTRIES).filter((key) => ENTRIES[key].kind === kind);
 
-/** What stands in a text between two lines. */
-const between = (text, from, to) => text.slice(text.indexOf(from), text.indexOf(to, text.indexOf(from)));
-
 test("from its first brace to its last the file is JSON, of the same entries", () => {
   const text = read("examples", "view", "refusals.js");
   assert.deepEqual(JSON.parse(text.slice(text.indexOf("{"), text.lastIndexOf("}") + 1)), ENTRIES);
@@ -40,9 +37,10 @@ test("each refusal of a query line has an entry with as many fields", () => {
 });
 
 test("each refusal of judge, each kind and each exit status has an entry", () => {
-  const page = between(read("docs", "CERTIFICATE.md"), "## What `judge` writes", "## The other algorithms");
-  assert.deepEqual(keysOf("judge"), [...page.matchAll(/^\| `([A-Z]\w+)/gm)].map((found) => found[1]));
-  assert.deepEqual(keysOf("inconsistency"), [...page.matchAll(/^\| ([0-9]) \|/gm)].map((found) => `kind ${found[1]}`));
+  const refusals = read("crates", "cert_judge", "src", "refusal.rt");
+  assert.deepEqual(keysOf("judge"), [...refusals.matchAll(/RefusalLine::\w+\(\s*b"(\w+)"/g)].map((found) => found[1]));
+  const kinds = read("crates", "access_log", "src", "kinds.rt");
+  assert.deepEqual(keysOf("inconsistency"), [...kinds.matchAll(/^(?:pub\(crate\) )?const \w+: u8 = ([0-9]);/gm)].map((found) => `kind ${found[1]}`));
   assert.deepEqual(keysOf("verdict"), ["fixes", "beaten"]);
   const statuses = [...read("crates", "command_line", "src", "status.rt").matchAll(/^ {4}[A-Z]\w+ = ([0-9]+),/gm)].map((found) => `status ${found[1]}`);
   assert.ok(statuses.length >= 11);
