@@ -19,14 +19,12 @@ import sys
 import tempfile
 import time
 import urllib.parse
-from collections.abc import Callable, Iterable, Iterator, Mapping, Sequence
+from collections.abc import Callable, Iterator, Mapping, Sequence
 from fractions import Fraction
-from typing import Any
 
-from machine import SECONDS, Skipped, free_port, over_network, path_of, peer
+from machine import SECONDS, Skipped, free_port, over_network, peer
+from support import PYTHON, REPOSITORY, first_wrong, wrong_examples
 
-REPOSITORY = pathlib.Path(__file__).resolve().parent.parent
-PYTHON = REPOSITORY / "python"
 LIBRARY = PYTHON / "topk" / "libtopk.so"
 VIEW = REPOSITORY / "examples" / "view" / "refusals.js"
 HOTELS = """name,price,rating,city
@@ -58,12 +56,6 @@ def command(program: str, *words: object, place: object = None, given: str = "")
         check=False,
     )
     return Said((done.returncode, done.stdout.decode(), done.stderr.decode()))
-
-
-def first_wrong(rows: Iterable[tuple[str, Any, Any]]) -> str | None:
-    """The first of some labelled values that isn't what is wanted, or None."""
-    wrong = (f"{label}: {found!r} in place of {wanted!r}" for label, found, wanted in rows if found != wanted)
-    return next(wrong, None)
 
 
 @contextlib.contextmanager
@@ -442,11 +434,7 @@ def command_installed(program: str) -> str | None:
 
 def command_doctests(program: str) -> str | None:
     """The examples of each file of the commands."""
-    files = sorted((PYTHON / "topk" / "commands").glob("*.py"))
-    there = {**os.environ, "PYTHONPATH": str(PYTHON), "TOPK_PROGRAM": program}
-    words = [sys.executable, "-m", "doctest", *map(str, files)]
-    done = subprocess.run(words, stdout=subprocess.PIPE, stderr=subprocess.STDOUT, env=there, timeout=SECONDS)
-    return None if done.returncode == 0 and not done.stdout else done.stdout.decode()[:2000]
+    return wrong_examples(program, sorted((PYTHON / "topk" / "commands").glob("*.py")))
 
 
 def tests() -> Iterator[tuple[str, Callable[[str], str | None]]]:

@@ -25,7 +25,7 @@ from typing import Any, Tuple
 
 from machine import SECONDS, Skipped, needs, no_memory, no_threads, path_of, peer
 from special import LARGEST, MAX_INPUT, padded_bundle
-from support import REPOSITORY, first_difference, list_text, module_at, ranked, run, worked_out
+from support import REPOSITORY, first_difference, list_text, ranked, run, worked_out
 
 HERE = pathlib.Path(__file__).resolve().parent
 EXAMPLES = REPOSITORY / "crates" / "examples" / "data"

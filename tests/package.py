@@ -22,9 +22,8 @@ from fractions import Fraction
 from typing import Any
 
 from machine import SECONDS, Skipped, path_of, peer
+from support import PYTHON, REPOSITORY, first_wrong, wrong_examples
 
-REPOSITORY = pathlib.Path(__file__).resolve().parent.parent
-PYTHON = REPOSITORY / "python"
 sys.path.insert(0, str(PYTHON))
 import topk  # noqa: E402
 from topk import (
@@ -49,13 +48,6 @@ HALF = Fraction(1, 2)
 
 
 # What tests share.
-
-
-def first_wrong(rows: Iterable[tuple[str, Any, Any]]) -> str | None:
-    """The first of some labelled values that isn't what is wanted, or None."""
-    return next(
-        (f"{label}: {found!r} in place of {wanted!r}" for label, found, wanted in rows if found != wanted), None
-    )
 
 
 def not_refused(rows: Iterable[tuple[type[Exception], str, Callable[[], Any]]]) -> str | None:
@@ -1009,16 +1001,7 @@ for wrong, hint in (({"A": [(1, 5), (1, 4)]}, "row 2 of the list A, the object 1
 def package_doctests(program: str) -> str | None:
     """The examples of each file and page, by `python3 -m doctest`."""
     files = [*sorted((PYTHON / "topk").glob("[!_]*.py")), PYTHON / "topk" / "__init__.py"]
-    files += [PYTHON / "README.md", REPOSITORY / "docs" / "LIBRARY.md"]
-    there = {**os.environ, "PYTHONPATH": str(PYTHON), "TOPK_PROGRAM": program}
-    done = subprocess.run(
-        [sys.executable, "-m", "doctest", *files],
-        stdout=subprocess.PIPE,
-        stderr=subprocess.STDOUT,
-        env=there,
-        timeout=SECONDS,
-    )
-    return None if done.returncode == 0 and not done.stdout else done.stdout.decode()[:2000]
+    return wrong_examples(program, [*files, PYTHON / "README.md", REPOSITORY / "docs" / "LIBRARY.md"])
 
 
 def package_types(program: str) -> str | None:

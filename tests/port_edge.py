@@ -74,16 +74,6 @@ def connected(port: int, host: str = "127.0.0.1") -> socket.socket:
             time.sleep(0.02)
 
 
-def slowly_received(link: socket.socket) -> bytes:
-    """What comes of a connection until it is closed or broken off, read piece by piece with pauses."""
-    parts = []
-    with contextlib.suppress(ConnectionError):
-        while part := link.recv(8192):
-            parts.append(part)
-            time.sleep(0.001)
-    return b"".join(parts)
-
-
 def asked(port: int, request: bytes, host: str = "127.0.0.1") -> bytes:
     """The reply to a request."""
     with connected(port, host) as link:
@@ -167,7 +157,7 @@ def slowly(port: int, head: str) -> bytes:
 
         sender = threading.Thread(target=send)
         sender.start()
-        given = slowly_received(link)
+        given = received(link, 8192, 0.001)
         sender.join()
         return given
 

@@ -25,6 +25,8 @@ from typing import Any, Union
 from machine import SECONDS, path_of, peer, free_port
 
 REPOSITORY = pathlib.Path(__file__).resolve().parent.parent
+# The folder of the Python package.
+PYTHON = REPOSITORY / "python"
 # The catalog of the hotels, and their lists that can be opened and asked for one grade.
 DATA = REPOSITORY / "crates" / "topk" / "data"
 HOTELS = ("price", "rating", "centre")
@@ -72,6 +74,20 @@ def differs(done: Done[bytes], status: int, output: bytes | None = None) -> str 
     if done.returncode != status:
         return f"ended with {done.returncode} in place of {status}; {wrong or 'wrote ' + shown(done.stdout)}"
     return wrong
+
+
+def first_wrong(rows: Iterable[tuple[str, Any, Any]]) -> str | None:
+    """The first of some labelled values that isn't what is wanted, or None."""
+    wrong = (f"{label}: {found!r} in place of {wanted!r}" for label, found, wanted in rows if found != wanted)
+    return next(wrong, None)
+
+
+def wrong_examples(program: str, files: Iterable[pathlib.Path]) -> str | None:
+    """What the examples in files and pages of the Python package give in place of what is stated, or None."""
+    there = {**os.environ, "PYTHONPATH": str(PYTHON), "TOPK_PROGRAM": program}
+    done = subprocess.run([sys.executable, "-m", "doctest", *map(str, files)], stdout=subprocess.PIPE,
+                          stderr=subprocess.STDOUT, env=there, timeout=SECONDS, check=False)
+    return None if done.returncode == 0 and not done.stdout else done.stdout.decode()[:2000]
 
 
 # Catalogs and list files.
@@ -380,13 +396,14 @@ def reply(port: int, request: bytes, seconds: float = SECONDS) -> bytes:
         return received(link)
 
 
-def received(link: socket.socket) -> bytes:
-    """What comes of a connection until it is closed, or broken off where the other end had bytes that it didn't
-    read."""
+def received(link: socket.socket, at_once: int = 65536, pause: float = 0) -> bytes:
+    """What comes of a connection until it is closed, or broken off where the other end had bytes that it didn't read;
+    with a pause after each piece."""
     parts = []
     with contextlib.suppress(ConnectionError):
-        while part := link.recv(65536):
+        while part := link.recv(at_once):
             parts.append(part)
+            time.sleep(pause)
     return b"".join(parts)
 
 
