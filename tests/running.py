@@ -7,6 +7,7 @@ import asyncio
 import collections
 import concurrent.futures
 import contextlib
+import itertools
 import os
 import re
 import socket
@@ -20,8 +21,8 @@ from edges import until
 from machine import SECONDS, free_port, needs, no_files, number_in, over_network, path_of, peer
 from peers import from_example, nginx, said
 from servers import LINES, LONG, body, server_over, slow_clients
-from support import (DATA, MANY, REPOSITORY, catalog, differs, first_difference, list_text, reply, request, run, server,
-                     wait_for, whole, worked_out, write)
+from support import (DATA, MANY, REPOSITORY, begun, built, catalog, differs, first_difference, list_text, reply,
+                     request, run, server, wait_for, whole, worked_out, write)
 
 UNIT = REPOSITORY / "examples" / "topk-serve@.service"
 LIMITS = ("TasksMax", "LimitNOFILE")
@@ -101,6 +102,21 @@ def restart(program: str) -> str | None:
             over.set()
         counts, bad = zip(*(it.result() for it in told))
     return next((f"a client had {it[:300]!r}" for it in bad if it), None if min(counts) > 0 else f"answered {counts}")
+
+
+def few_threads(program: str) -> str | None:
+    """A server that gets 1 to 12 threads answers each line, a list after another, with one worker and with four."""
+    with tempfile.TemporaryDirectory() as place:
+        before = built(place, "sharing")
+        for threads, workers in itertools.product(range(1, 13), ("1", "4")):
+            env = dict(os.environ, LD_PRELOAD=before, SHARING_THREADS=str(threads))
+            command = [program, "serve", "catalog.csv", "--conns", str(MANY), "--workers", workers]
+            with begun(command, DATA, env=env) as (port, _):
+                for line in LINES:
+                    wrong = first_difference(reply(port, request(line), 10), whole(body(line)))
+                    if wrong is not None:
+                        return f"{threads} threads, {workers} workers, {line}: {wrong}"
+    return None
 
 
 def replaced(program: str) -> str | None:
@@ -231,6 +247,6 @@ def memory(program: str) -> str | None:
 def tests() -> Iterator[tuple[str, Callable[[str], str | None]]]:
     """Each test with its name."""
     yield "running_unit", unit
-    for test in (limits_of_unit, restart, replaced, node_back, slow_behind_nginx, limits_of_nginx, many_clients,
-                 memory):
+    for test in (limits_of_unit, restart, few_threads, replaced, node_back, slow_behind_nginx, limits_of_nginx,
+                 many_clients, memory):
         yield f"running_{test.__name__}", over_network(test)
