@@ -73,8 +73,11 @@ tells s note = entry_of (objects_of s) (fault_in s.log) note
 
 -- what the ask at a place settled as
 ask_tells : (log : List LogEntry) (asks : List ℕ) (place : ℕ)
-    → option_and_then settled_entry (slice_get (map (ask_in log) asks) place) ≡ option_and_then (λ object. settled_entry (ask_in log object)) (slice_get asks place)
-ask_tells log asks place = ap (option_and_then settled_entry) (slice_get-map (ask_in log) asks place) ∙ then_map settled_entry (ask_in log) (slice_get asks place)
+    → option_and_then settled_entry (slice_get (map (ask_in log) asks) place)
+    ≡ option_and_then (λ object. settled_entry (ask_in log object)) (slice_get asks place)
+ask_tells log asks place =
+    ap (option_and_then settled_entry) (slice_get-map (ask_in log) asks place)
+    ∙ then_map settled_entry (ask_in log) (slice_get asks place)
 
 -- an entry that is told stays told where the log and the asks grow
 stays : (s t : State) (more : List LogEntry) (others : List ℕ) → t.log ≡ s.log ++ more → t.asks ≡ s.asks ++ others → (note : Note) (told : LogEntry)
@@ -86,7 +89,8 @@ stays s t more others log asks (Kept place) told e =
     ∙ slice_get_front (rows_in s.log) (rows_in more) place row there) e
 stays s t more others log asks (Settled place) told e =
     ask_tells t.log t.asks place
-    ∙ then_stays (λ object. settled_entry (ask_in s.log object)) (λ object. settled_entry (ask_in t.log object)) (slice_get s.asks place) (slice_get t.asks place) told
+    ∙ then_stays (λ object. settled_entry (ask_in s.log object)) (λ object. settled_entry (ask_in t.log object))
+    (slice_get s.asks place) (slice_get t.asks place) told
     (λ object there. ap (λ objects. slice_get objects place) asks ∙ slice_get_front s.asks others place object there)
     (λ object settled.
     map_stays (λ settling. entry.Settled object settling) (settling_in s.log object) (settling_in t.log object) told
@@ -100,7 +104,8 @@ stays s t more others log asks Fault told e =
     ap fault_in log ∙ ap first_of (filter_map-append fault_set s.log more)
     ∙ first_front (filter_map fault_set s.log) (filter_map fault_set more) fault is) e
 
-same_entry : {kept after : ObjectList} {set now : Option SourceFault} → kept ≡ after → set ≡ now → (note : Note) → entry_of kept set note ≡ entry_of after now note
+same_entry : {kept after : ObjectList} {set now : Option SourceFault} → kept ≡ after → set ≡ now → (note : Note)
+    → entry_of kept set note ≡ entry_of after now note
 same_entry {kept} {after} {set} {now} e f note = ap (λ (list : ObjectList). entry_of list set note) e ∙ ap (λ o. entry_of after o note) f
 
 -- what the notes told before an event they tell after it
@@ -146,7 +151,8 @@ pub settling_noted : (s : State) (object place : ℕ) (settling : Settling) → 
     → position (nat_eq object) (ask_objects (map (ask_in s.log) s.asks)) ≡ Some place
     → tells (logged s (entry.Settled object settling)) (Settled place) ≡ Some (entry.Settled object settling)
 settling_noted s object place settling none at =
-    let there : slice_get s.asks place ≡ Some object = object_at s.asks object place (sym (ap (position (nat_eq object)) (objects_of_asks s.log s.asks)) ∙ at) in
+    let there : slice_get s.asks place ≡ Some object =
+    object_at s.asks object place (sym (ap (position (nat_eq object)) (objects_of_asks s.log s.asks)) ∙ at) in
     ask_tells (s.log ++ entry.Settled object settling ∷ []) s.asks place
     ∙ ap (option_and_then (λ other. settled_entry (ask_in (s.log ++ entry.Settled object settling ∷ []) other))) there
     ∙ ap (option_map (λ settling. entry.Settled object settling)) (settled_same s.log object settling none)

@@ -48,9 +48,12 @@ stepped after shown objects fault notes capacity k e =
 -- no event yet
 pub state_opened : (list count capacity : ℕ) (notes : List Note) (objects : ObjectList) → count ≤ MAX_OBJECTS → notes ≡ []
     → objects ≡ record { room = count; rows = []; asks = [] } → 2 * count + 1 ≤ capacity
-    → Stepped (record (opened list count) { log = entries_of objects None notes; asks = ask_objects objects.asks }) (opened list count) objects None notes capacity
+    → Stepped (record (opened list count) { log = entries_of objects None notes; asks = ask_objects objects.asks }) (opened list count)
+    objects None notes capacity
 state_opened list count capacity notes objects small none is room =
-    subst (λ many. Stepped (record (opened list count) { log = entries_of objects None many; asks = ask_objects objects.asks }) (opened list count) objects None many capacity) (sym none)
+    subst
+    (λ many. Stepped (record (opened list count) { log = entries_of objects None many; asks = ask_objects objects.asks }) (opened list count)
+    objects None many capacity) (sym none)
     (stepped (opened list count) _ objects None [] capacity
     (record { objects = is; fault = refl; told = refl; reserved = room; sound = sound_opened list count small }) refl)
 
@@ -139,7 +142,8 @@ pub state_ask : (s : State) (objects added : ObjectList) (fault : Option SourceF
 state_ask s objects added fault notes capacity object k room add =
     let shown : added ≡ objects_of (with_ask s object) =
     add ∙ ap (λ (list : ObjectList). asked list object) k.objects
-    ∙ ap (λ os. let one : ObjectList = record { room = s.count; rows = rows_in s.log; asks = os } in one) (one_more_ask s object (ask_of (asks_of s) object) k.sound refl) in
+    ∙ ap (λ os. let one : ObjectList = record { room = s.count; rows = rows_in s.log; asks = os } in one)
+    (one_more_ask s object (ask_of (asks_of s) object) k.sound refl) in
     stepped (with_ask s object) _ added fault notes capacity
     (record {
       objects = shown;
@@ -190,11 +194,13 @@ pending_place s objects fault notes capacity object None k pending at =
     absurd (ask_missing s.log s.asks object
     (subst (λ (list : ObjectList). ask_of list.asks object ≡ None) k.objects (ask_no_place objects.asks object (sym at))) (pending_parts s object pending).0)
 
-pub state_settling : (s : State) (objects settled : ObjectList) (fault : Option SourceFault) (notes next : List Note) (capacity reserved object place : ℕ) (settling : Settling)
+pub state_settling : (s : State) (objects settled : ObjectList) (fault : Option SourceFault) (notes next : List Note)
+    (capacity reserved object place : ℕ) (settling : Settling)
     → KeepsState s objects fault notes capacity → asked_in s object ≡ Some became.Pending → SettlesWell (rows_in s.log) object settling
     → settled ≡ record objects { asks = settled_asks object settling objects.asks } → position (nat_eq object) (ask_objects objects.asks) ≡ Some place
     → next ≡ notes ++ note.Settled place ∷ [] → reserved ≡ capacity
-    → Stepped (record s { log = entries_of settled fault next; asks = ask_objects settled.asks }) (logged s (Settled object settling)) settled fault next reserved
+    → Stepped (record s { log = entries_of settled fault next; asks = ask_objects settled.asks }) (logged s (Settled object settling))
+    settled fault next reserved
 state_settling s objects settled fault notes next capacity reserved object place settling k pending well settle at add same =
     let none : settling_in s.log object ≡ None = (pending_parts s object pending).1 in
     let shown : settled ≡ objects_of (logged s (Settled object settling)) =
@@ -206,7 +212,8 @@ state_settling s objects settled fault notes next capacity reserved object place
       objects = shown;
       fault = stands;
       told = logged_told s (Settled object settling) objects settled fault fault notes next capacity (note.Settled place) k shown stands add
-          (settling_noted s object place settling none (subst (λ (list : ObjectList). position (nat_eq object) (ask_objects list.asks) ≡ Some place) k.objects at));
+          (settling_noted s object place settling none
+          (subst (λ (list : ObjectList). position (nat_eq object) (ask_objects list.asks) ≡ Some place) k.objects at));
       reserved = let before = k.reserved in omega arith;
       sound = sound_settling s object settling k.sound pending well;
     }) refl
@@ -214,7 +221,8 @@ state_settling s objects settled fault notes next capacity reserved object place
 -- one more row fault
 pub state_fault : (s : State) (objects : ObjectList) (old : Option SourceFault) (notes next : List Note) (capacity reserved : ℕ) (fault : SourceFault)
     → KeepsState s objects old notes capacity → fault_in s.log ≡ None → next ≡ notes ++ note.Fault ∷ [] → reserved ≡ capacity
-    → Stepped (record s { log = entries_of objects (Some fault) next; asks = ask_objects objects.asks }) (logged s (Fault fault)) objects (Some fault) next reserved
+    → Stepped (record s { log = entries_of objects (Some fault) next; asks = ask_objects objects.asks }) (logged s (Fault fault))
+    objects (Some fault) next reserved
 state_fault s objects old notes next capacity reserved fault k none add same =
     let shown : objects ≡ objects_of (logged s (Fault fault)) =
     k.objects ∙ objects_is s.count _ _ _ _ (sym (fault_rows s.log fault)) (asks_fault s.log fault s.asks) in
