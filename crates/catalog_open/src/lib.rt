@@ -13,7 +13,7 @@ mod reading;
 mod taking;
 mod wanted;
 
-pub use admissions::{Admissions, Stage, admit_all};
+pub use admissions::{Admissions, admit_all};
 pub use catalogued::{Catalogued, said_of};
 pub use closing::put_back_all;
 pub use opened::{OpenSources, Opening};

@@ -9,6 +9,7 @@ use Rattle.source_api.specs.Counting.{NoneFell, no_counts}
 use Rattle.source_api.specs.Told.{HasEachOnce}
 use Rattle.query_core.specs.declared.ready.Ready.{Ready as ReadyQuery}
 use Rattle.query_admission.specs.View.{View}
+use Rattle.query_admission.specs.declared.line_outcome.LineOutcome.{LineOutcome}
 use Rattle.query_run.specs.declared.running_query.RunningQuery.{RunningQuery}
 use Rattle.query_run.specs.Made.{IsOf}
 use Rattle.fetcher.specs.declared.slot.Slot.{Slot}
@@ -18,7 +19,6 @@ use Rattle.batch_result.specs.Cut.{IsOfBegun, IsReadBy, IsCut, begun as begun_of
 use Rattle.batch_run.proofs.RunLaws.{counts_same}
 use Rattle.batch_run.proofs.UncalledLaws.{cut_uncalled}
 use Rattle.catalog_text.specs.Catalog.{Listed as Entry}
-use Rattle.catalog_open.specs.declared.admissions.Stage.{Stage}
 use Rattle.catalog_open.specs.declared.opened.Opening.{Opening}
 use Rattle.catalog_open.specs.Admissions.{AreAdmitted}
 use Rattle.catalog_open.specs.Views.{view_over, nothing_told}
@@ -57,16 +57,16 @@ cut_whole run batch ran =
 -- ---- over the lines
 
 -- all lines were admitted
-pub cut_over : (settings : Settings) (s : Sources) (before now : List Counts) (view : View) (lines : List (List ℕ)) (stages : List Stage)
-    (readies : List ReadyQuery) → length before ≡ length s.told → AllZip NoneFell before now → AreAdmitted view 1 lines stages readies
+pub cut_over : (settings : Settings) (s : Sources) (before now : List Counts) (view : View) (lines : List (List ℕ)) (outcomes : List (Option LineOutcome))
+    (readies : List ReadyQuery) → length before ≡ length s.told → AllZip NoneFell before now → AreAdmitted view 1 lines outcomes readies
     → IsCut (batch_over settings s before now readies) → CutOver settings s before now view lines
-cut_over settings s before now view lines stages readies many later are cut = record {
+cut_over settings s before now view lines outcomes readies many later are cut = record {
   many = many;
   later = later;
   admitted = length lines;
-  stages = stages;
+  outcomes = outcomes;
   readies = readies;
-  are = subst (λ (ls : List (List ℕ)). AreAdmitted view 1 ls stages readies) (sym (take_all (length lines) lines (omega arith))) are;
+  are = subst (λ (ls : List (List ℕ)). AreAdmitted view 1 ls outcomes readies) (sym (take_all (length lines) lines (omega arith))) are;
   cut = cut;
 }
 
@@ -84,7 +84,7 @@ module _ {S : Type 0} (list : S → Option (List Row)) (counts : S → Counts) (
     many = length-map slots (of_slot counts) ∙ sym (length-map slots (of_slot list));
     later = counts_same list counts at_hand slots;
     admitted = 0;
-    stages = [];
+    outcomes = [];
     readies = [];
     are = refl;
     cut = cut_uncalled list counts at_hand settings sizes [] slots once many small;

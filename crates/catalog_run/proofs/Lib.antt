@@ -1,9 +1,7 @@
--- Lemmas on outcomes that are put together.
-pub mod Merged
 -- Lemmas on sources that stand in slots.
 pub mod Turned
 -- Lemmas on the outcomes of lines.
-pub mod Outcomes
+pub mod EndedLines
 pub mod Readies
 pub mod Writable
 pub mod Whole

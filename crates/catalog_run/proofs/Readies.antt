@@ -4,9 +4,9 @@ use Rattle.std.specs.List.{AllByRecursion}
 use Rattle.std.proofs.lemmas.Bool.{cases_lt, le-leb}
 use Rattle.std.proofs.lemmas.Option.{same_Some}
 use Rattle.std.proofs.lemmas.List.{get_or_past}
-use Rattle.std.proofs.lemmas.List.Elements.{All-from_recursion}
+use Rattle.std.proofs.lemmas.List.Elements.{All-cons, All-from_recursion, All-nil, All-weaker}
 use Rattle.ranked_list.specs.declared.row.Row.{Row}
-use Rattle.query_core.specs.declared.ready.Ready.{Ready as ReadyQuery}
+use Rattle.query_core.specs.declared.ready.Ready.{Ready}
 use Rattle.topk_theory.proofs.AgreementLists.{contains_here, member_of_all}
 use Rattle.cert_text.specs.declared.refusal.Refusal.{Refusal}
 use Rattle.cert_text.specs.declared.refusal.Refusal.TheVariants.{ManyQueries}
@@ -14,14 +14,13 @@ use Rattle.query_admission.specs.View.{View, versions_at}
 use Rattle.query_admission.specs.Causes.{most_queries, Cause, admission_causes, RefusesFor, NoneOf, line_over}
 use Rattle.query_admission.specs.Admission.{IsAdmitted}
 use Rattle.query_admission.specs.declared.lists.ListInfo.{ListInfo}
+use Rattle.query_admission.specs.declared.line_outcome.LineOutcome.{LineOutcome}
 use Rattle.query_admission.proofs.Positions.{nothing}
 use Rattle.query_admission.proofs.ReadyLists.{admitted_states}
 use Rattle.query_run.specs.Made.{IsReadyFor}
 use Rattle.catalog_text.specs.Catalog.{Listed as Entry}
 use Rattle.catalog_open.specs.declared.opened.Opening.{Opening}
 use Rattle.catalog_open.specs.declared.opened.Opening.TheVariants.{Closed, Open}
-use Rattle.catalog_open.specs.declared.admissions.Stage.{Stage}
-use Rattle.catalog_open.specs.declared.admissions.Stage.TheVariants.{Refused, Ready}
 use Rattle.catalog_open.specs.Views.{entry_named, said_of, listed_at, view_over}
 use Rattle.catalog_open.specs.Entries.{entry_at, opening_at}
 use Rattle.catalog_open.specs.Openings.{Counted, Sources, AreOpened, IsOpening, IsSource, run_count}
@@ -36,6 +35,40 @@ HasCount counts n source = (source < length counts) × (slice_index_or counts so
 
 run_count_is : (size : ℕ) → size ≤ MAX_OBJECTS → run_count size ≡ size
 run_count_is size small = ap (λ t. cond t size 0) (le-leb size MAX_OBJECTS small)
+
+-- each query that is ready is that of one of these lines, which are numbered from this number on
+abbrev OwnedFrom : View → ℕ → List (List ℕ) → Ready → Type 0
+OwnedFrom view number lines ready = (at : ℕ) × (bytes : List ℕ) × (slice_get lines at ≡ Some bytes) × IsAdmitted (line_over view (number + at) bytes) ready
+
+later_own : (view : View) (number : ℕ) (bytes : List ℕ) (lines : List (List ℕ)) (readies : List Ready)
+    → All (OwnedFrom view (number + 1) lines) readies → All (OwnedFrom view number (bytes ∷ lines)) readies
+later_own view number bytes lines readies all =
+    All-weaker (OwnedFrom view (number + 1) lines) (OwnedFrom view number (bytes ∷ lines))
+    (λ ready one.
+    let e : number + 1 + one.0 ≡ number + suc one.0 = omega arith in
+    (suc one.0, one.1, one.2, subst (λ n. IsAdmitted (line_over view n one.1) ready) e one.3)) readies all
+
+own_from : (view : View) (number : ℕ) (lines : List (List ℕ)) (outcomes : List (Option LineOutcome)) (readies : List Ready)
+    → AreAdmitted view number lines outcomes readies → All (OwnedFrom view number lines) readies
+own_from view number [] [] readies are = subst (All (OwnedFrom view number [])) (sym are) (All-nil (OwnedFrom view number []))
+own_from view number [] (o ∷ outcomes) readies are = absurd are
+own_from view number (bytes ∷ lines) [] readies are = absurd are
+own_from view number (bytes ∷ lines) (Some o ∷ outcomes) readies are =
+    later_own view number bytes lines readies (own_from view (number + 1) lines outcomes readies are.1)
+own_from view number (bytes ∷ lines) (None ∷ outcomes) [] are = absurd are
+own_from view number (bytes ∷ lines) (None ∷ outcomes) (ready ∷ readies) are =
+    let e : number ≡ number + 0 = omega arith in
+    All-cons (OwnedFrom view number (bytes ∷ lines)) ready readies (0, bytes, refl, subst (λ n. IsAdmitted (line_over view n bytes) ready) e are.0)
+    (later_own view number bytes lines readies (own_from view (number + 1) lines outcomes readies are.1))
+
+pub all_own : (view : View) (lines : List (List ℕ)) (outcomes : List (Option LineOutcome)) (readies : List Ready) → AreAdmitted view 1 lines outcomes readies
+    → All (IsReadyOf view lines) readies
+all_own view lines outcomes readies are =
+    All-weaker (OwnedFrom view 1 lines) (IsReadyOf view lines)
+    (λ ready one.
+    let e : 1 + one.0 ≡ one.0 + 1 = omega arith in
+    record { at = one.0; bytes = one.1; line = one.2; admitted = subst (λ n. IsAdmitted (line_over view n one.1) ready) e one.3 })
+    readies (own_from view 1 lines outcomes readies are)
 
 module _ (lists told : List ℕ → Option (List Row)) (versions : List ℕ → Option ℕ) (catalog : List Entry) (Wanted : ℕ → Type 0) (before now : Counted) (openings : List Opening) (s : Sources) (are : AreOpened lists versions catalog Wanted before now openings s) where
   abbrev IsThere : ℕ → ListInfo → Type 0
@@ -96,7 +129,7 @@ module _ (lists told : List ℕ → Option (List Row)) (versions : List ℕ → 
       ap (λ v. v ∷ versions_at ls) (sym one)
       ∙ ap (λ vs. version_at s.versions l.source ∷ vs) (all_at_hand n names ls small rest (λ place h. sizes (suc place) (omega (arith, h))))
 
-  ready_for : (number : ℕ) (bytes : List ℕ) (ready : ReadyQuery) → IsAdmitted (line_over (view_over catalog openings told) number bytes) ready
+  ready_for : (number : ℕ) (bytes : List ℕ) (ready : Ready) → IsAdmitted (line_over (view_over catalog openings told) number bytes) ready
       → IsReadyFor s.counts ready
   ready_for number bytes ready admitted = record {
     is = admitted.sound;
@@ -105,75 +138,26 @@ module _ (lists told : List ℕ → Option (List Row)) (versions : List ℕ → 
         (all_sourced ready.count ready.query.names admitted.lists admitted.sound.counted admitted.listed (admitted_states (line_over (view_over catalog openings told) number bytes) ready admitted)));
   }
 
-  readies_for : (number : ℕ) (lines : List (List ℕ)) (stages : List Stage) (readies : List ReadyQuery)
-      → AreAdmitted (view_over catalog openings told) number lines stages readies → AllByRecursion (IsReadyFor s.counts) readies
-  readies_for number [] [] readies all = subst (AllByRecursion (IsReadyFor s.counts)) (sym all) tt
-  readies_for number [] (stage ∷ stages) readies all = absurd all
-  readies_for number (bytes ∷ lines) [] readies all = absurd all
-  readies_for number (bytes ∷ lines) (Refused refusal query ∷ stages) readies all = readies_for (number + 1) lines stages readies all.1
-  readies_for number (bytes ∷ lines) (Ready ∷ stages) [] all = absurd all
-  readies_for number (bytes ∷ lines) (Ready ∷ stages) (ready ∷ readies) all = (ready_for number bytes ready all.0, readies_for (number + 1) lines stages readies all.1)
-
-  pub ready_versions : (number : ℕ) (bytes : List ℕ) (ready : ReadyQuery) → IsAdmitted (line_over (view_over catalog openings told) number bytes) ready
+  pub ready_versions : (number : ℕ) (bytes : List ℕ) (ready : Ready) → IsAdmitted (line_over (view_over catalog openings told) number bytes) ready
       → HasVersions s.versions ready
   ready_versions number bytes ready admitted =
       sym admitted.versions
       ∙ (all_at_hand ready.count ready.query.names admitted.lists admitted.sound.counted admitted.listed (admitted_states (line_over (view_over catalog openings told) number bytes) ready admitted)
       ∙ ap (map (version_at s.versions)) admitted.sources)
 
-  all_versions_of : (number : ℕ) (lines : List (List ℕ)) (stages : List Stage) (readies : List ReadyQuery)
-      → AreAdmitted (view_over catalog openings told) number lines stages readies → AllByRecursion (HasVersions s.versions) readies
-  all_versions_of number [] [] readies all = subst (AllByRecursion (HasVersions s.versions)) (sym all) tt
-  all_versions_of number [] (stage ∷ stages) readies all = absurd all
-  all_versions_of number (bytes ∷ lines) [] readies all = absurd all
-  all_versions_of number (bytes ∷ lines) (Refused refusal query ∷ stages) readies all = all_versions_of (number + 1) lines stages readies all.1
-  all_versions_of number (bytes ∷ lines) (Ready ∷ stages) [] all = absurd all
-  all_versions_of number (bytes ∷ lines) (Ready ∷ stages) (ready ∷ readies) all = (ready_versions number bytes ready all.0, all_versions_of (number + 1) lines stages readies all.1)
+  -- each query that is ready is ready for the counts of the sources
+  pub all_ready : (lines : List (List ℕ)) (outcomes : List (Option LineOutcome)) (readies : List Ready)
+      → AreAdmitted (view_over catalog openings told) 1 lines outcomes readies → All (IsReadyFor s.counts) readies
+  all_ready lines outcomes readies all =
+      All-weaker (IsReadyOf (view_over catalog openings told) lines) (IsReadyFor s.counts)
+      (λ ready own. ready_for (own.at + 1) own.bytes ready own.admitted) readies (all_own (view_over catalog openings told) lines outcomes readies all)
 
   -- and its versions are those at hand
-  pub all_versions : (number : ℕ) (lines : List (List ℕ)) (stages : List Stage) (readies : List ReadyQuery)
-      → AreAdmitted (view_over catalog openings told) number lines stages readies → All (HasVersions s.versions) readies
-  all_versions number lines stages readies all = All-from_recursion (HasVersions s.versions) readies (all_versions_of number lines stages readies all)
-
-  -- each query that is ready is ready for the counts of the sources
-  pub all_ready : (number : ℕ) (lines : List (List ℕ)) (stages : List Stage) (readies : List ReadyQuery)
-      → AreAdmitted (view_over catalog openings told) number lines stages readies → All (IsReadyFor s.counts) readies
-  all_ready number lines stages readies all = All-from_recursion (IsReadyFor s.counts) readies (readies_for number lines stages readies all)
-
--- each of them is the query of a line
-abbrev OwnedFrom : View → ℕ → List (List ℕ) → ReadyQuery → Type 0
-OwnedFrom view number lines ready = (at : ℕ) × (bytes : List ℕ) × (slice_get lines at ≡ Some bytes) × IsAdmitted (line_over view (number + at) bytes) ready
-
-later_own : (view : View) (number : ℕ) (bytes : List ℕ) (lines : List (List ℕ)) (readies : List ReadyQuery)
-    → AllByRecursion (OwnedFrom view (number + 1) lines) readies → AllByRecursion (OwnedFrom view number (bytes ∷ lines)) readies
-later_own view number bytes lines [] all = tt
-later_own view number bytes lines (ready ∷ readies) all =
-    let one = all.0 in
-    let e : number + 1 + one.0 ≡ number + suc one.0 = omega arith in
-    ((suc one.0, one.1, one.2, subst (λ n. IsAdmitted (line_over view n one.1) ready) e one.3), later_own view number bytes lines readies all.1)
-
-own_from : (view : View) (number : ℕ) (lines : List (List ℕ)) (stages : List Stage) (readies : List ReadyQuery) → AreAdmitted view number lines stages readies
-    → AllByRecursion (OwnedFrom view number lines) readies
-own_from view number [] [] readies are = subst (AllByRecursion (OwnedFrom view number [])) (sym are) tt
-own_from view number [] (stage ∷ stages) readies are = absurd are
-own_from view number (bytes ∷ lines) [] readies are = absurd are
-own_from view number (bytes ∷ lines) (Refused refusal query ∷ stages) readies are = later_own view number bytes lines readies (own_from view (number + 1) lines stages readies are.1)
-own_from view number (bytes ∷ lines) (Ready ∷ stages) [] are = absurd are
-own_from view number (bytes ∷ lines) (Ready ∷ stages) (ready ∷ readies) are =
-    let e : number ≡ number + 0 = omega arith in
-    ((0, bytes, refl, subst (λ n. IsAdmitted (line_over view n bytes) ready) e are.0), later_own view number bytes lines readies (own_from view (number + 1) lines stages readies are.1))
-
-owned : (view : View) (lines : List (List ℕ)) (readies : List ReadyQuery) → AllByRecursion (OwnedFrom view 1 lines) readies
-    → AllByRecursion (IsReadyOf view lines) readies
-owned view lines [] all = tt
-owned view lines (ready ∷ readies) all =
-    let one = all.0 in
-    let e : 1 + one.0 ≡ one.0 + 1 = omega arith in
-    (record { at = one.0; bytes = one.1; line = one.2; admitted = subst (λ n. IsAdmitted (line_over view n one.1) ready) e one.3 }, owned view lines readies all.1)
-
-pub all_own : (view : View) (lines : List (List ℕ)) (stages : List Stage) (readies : List ReadyQuery) → AreAdmitted view 1 lines stages readies
-    → All (IsReadyOf view lines) readies
-all_own view lines stages readies are = All-from_recursion (IsReadyOf view lines) readies (owned view lines readies (own_from view 1 lines stages readies are))
+  pub all_versions : (lines : List (List ℕ)) (outcomes : List (Option LineOutcome)) (readies : List Ready)
+      → AreAdmitted (view_over catalog openings told) 1 lines outcomes readies → All (HasVersions s.versions) readies
+  all_versions lines outcomes readies all =
+      All-weaker (IsReadyOf (view_over catalog openings told) lines) (HasVersions s.versions)
+      (λ ready own. ready_versions (own.at + 1) own.bytes ready own.admitted) readies (all_own (view_over catalog openings told) lines outcomes readies all)
 
 -- an admitted line is one of the first
 pub admitted_few : (view : View) (number : ℕ) (bytes : List ℕ) → NoneOf (RefusesFor (line_over view number bytes)) admission_causes → number ≤ most_queries
@@ -186,14 +170,14 @@ admitted_few view number bytes none =
     ]
 
 -- no more lines are ready than may be
-pub readies_few : (view : View) (number : ℕ) (lines : List (List ℕ)) (stages : List Stage) (readies : List ReadyQuery)
-    → AreAdmitted view number lines stages readies → length readies ≤ most_queries + 1 - number
+pub readies_few : (view : View) (number : ℕ) (lines : List (List ℕ)) (outcomes : List (Option LineOutcome)) (readies : List Ready)
+    → AreAdmitted view number lines outcomes readies → length readies ≤ most_queries + 1 - number
 readies_few view number [] [] readies are = let none : length readies ≡ 0 = ap length are in omega (arith, none)
-readies_few view number [] (stage ∷ stages) readies are = absurd are
+readies_few view number [] (o ∷ outcomes) readies are = absurd are
 readies_few view number (bytes ∷ lines) [] readies are = absurd are
-readies_few view number (bytes ∷ lines) (Refused refusal query ∷ stages) readies are = let rest = readies_few view (number + 1) lines stages readies are.1 in omega (arith, rest)
-readies_few view number (bytes ∷ lines) (Ready ∷ stages) [] are = absurd are
-readies_few view number (bytes ∷ lines) (Ready ∷ stages) (ready ∷ readies) are =
-    let rest = readies_few view (number + 1) lines stages readies are.1 in
+readies_few view number (bytes ∷ lines) (Some o ∷ outcomes) readies are = let rest = readies_few view (number + 1) lines outcomes readies are.1 in omega (arith, rest)
+readies_few view number (bytes ∷ lines) (None ∷ outcomes) [] are = absurd are
+readies_few view number (bytes ∷ lines) (None ∷ outcomes) (ready ∷ readies) are =
+    let rest = readies_few view (number + 1) lines outcomes readies are.1 in
     let few = admitted_few view number bytes are.0.unrefused in
     omega (arith, rest, few)

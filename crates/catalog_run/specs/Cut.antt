@@ -1,13 +1,13 @@
 -- Runs of query lines that ran out of memory.
-use Rattle.std.specs.Prelude.{◌≡◌, ◌<◌, ℕ, List, All, length, reverse, take}
+use Rattle.std.specs.Prelude.{◌≡◌, ◌<◌, ℕ, Option, List, All, length, reverse, take}
 use Rattle.std.specs.List.{AllZip}
 use Rattle.source_api.specs.declared.counts.Counts.{Counts}
 use Rattle.source_api.specs.Counting.{NoneFell}
 use Rattle.query_core.specs.declared.ready.Ready.{Ready}
 use Rattle.query_admission.specs.View.{View}
+use Rattle.query_admission.specs.declared.line_outcome.LineOutcome.{LineOutcome}
 use Rattle.topk_base.specs.declared.settings.Settings.{Settings}
 use Rattle.batch_result.specs.Cut.{IsCut}
-use Rattle.catalog_open.specs.declared.admissions.Stage.{Stage}
 use Rattle.catalog_open.specs.declared.opened.Opening.{Opening}
 use Rattle.catalog_open.specs.Admissions.{AreAdmitted}
 use Rattle.catalog_open.specs.Views.{view_over, nothing_told}
@@ -22,9 +22,9 @@ pub record CutOver (settings : Settings) (s : Sources) (begun now : List Counts)
   pub many : length begun ≡ length s.told
   pub later : AllZip NoneFell begun now
   pub admitted : ℕ
-  pub stages : List Stage
+  pub outcomes : List (Option LineOutcome)
   pub readies : List Ready
-  pub are : AreAdmitted view 1 (take admitted lines) stages readies
+  pub are : AreAdmitted view 1 (take admitted lines) outcomes readies
   pub cut : IsCut (batch_over settings s begun now readies)
 
 -- a run that ran out of memory: sources that the lines want were opened, which reads nothing of them; lines were admitted, and read the open sources, only

@@ -1,5 +1,3 @@
--- What the outcomes of query lines are.
-pub mod Merging
 -- What a batch over open sources is.
 pub mod OpenSources
 -- What query lines over the lists of a catalog come to.

@@ -11,9 +11,9 @@ ghost use Rattle.catalog_run.specs.RunEnds.{EndsRunning};
 ghost use Rattle.catalog_run.specs.Faults.{SaysFault, text_status, read_status};
 ghost use Rattle.catalog_run.specs.Running.{catalog_refused_text};
 
+use super::ended_lines::let_go;
 use super::line_outcomes::write_outcomes;
 use super::lines::run_lines;
-use super::merging::let_go;
 use catalog_open::Memory;
 use catalog_text::{Catalog, CatalogFault, read_catalog};
 use command_line::{RunOptions, Status, ended};

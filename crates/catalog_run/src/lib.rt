@@ -5,15 +5,15 @@
 #![tactic(auto)]
 
 mod command;
+mod ended_lines;
 mod line_outcomes;
 mod lines;
 mod made_text;
-mod merging;
 mod texts;
 
 pub use batch_run::Settings;
 pub use catalog_open::Memory;
 pub use command::{refuse, run};
+pub use ended_lines::let_go;
 pub use lines::run_lines;
-pub use merging::{let_admissions_go, let_go, merge};
 pub use query_admission::LineOutcome;

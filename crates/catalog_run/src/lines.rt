@@ -14,7 +14,7 @@ ghost use Rattle.catalog_run.specs.Cut.{CutOver, RanOutOfMemory};
 ghost use Rattle.line_outcome.specs.LineOutcomes.{CanBeWritten};
 
 use super::Memory;
-use super::merging::{let_admissions_go, merge};
+use super::ended_lines::end_lines;
 use batch_run::{Settings, run_all};
 use catalog_open::{
     Catalogued, OpenSources, admit_all, let_lines_go, mark_wanted, open_wanted, put_back_all,
@@ -37,7 +37,7 @@ use std::thread::Threads;
 /// sources are put back, where memory is refused too: each source that was taken was put back once. What was read of them by then is
 /// within the bounds of a run that ends.
 ///
-/// *Cost*: `read_lines`, `mark_wanted`, `open_wanted`, `admit_all`, `run_all`, one outcome for each line, `put_back_all`.
+/// *Cost*: `read_lines`, `mark_wanted`, `open_wanted`, `admit_all`, `run_all`, room for the outcomes, `put_back_all`.
 pub fn run_lines<W: Threads + Wait + Sync, H: Shelf>(
     rt: &W,
     alloc: Global,
@@ -160,8 +160,7 @@ fn run_opened<W: Threads + Wait + Sync, S: Source>(
         &admissions.readies,
         settings,
     ) else {
-        let_admissions_go(admissions);
         return Err(Memory);
     };
-    merge(alloc, admissions, batch.into_endings())
+    end_lines(alloc, admissions, batch.into_endings())
 }

@@ -91,7 +91,7 @@ pub cut_own : (r : CatalogRun) (cut : RanOutOfMemory r) → All (IsReadyOf (view
 cut_own r cut =
     let V = view_over r.catalog cut.openings nothing_told in
     let front = take cut.read.admitted r.lines in
-    let own = all_own V front cut.read.stages cut.read.readies cut.read.are in
+    let own = all_own V front cut.read.outcomes cut.read.readies cut.read.are in
     all_from_members (IsReadyOf V r.lines) cut.read.readies
     (λ ready c.
     let is = member_of_all (IsReadyOf V front) cut.read.readies ready own c in

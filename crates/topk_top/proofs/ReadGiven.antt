@@ -1,5 +1,5 @@
 -- The open sources of a run gave no more than its lines read of them.
-use Rattle.std.proofs.Common.{◌≡◌, ◌≤◌, ◌<◌, ◌+◌, ◌-◌, ◌*◌, ◌/◌, inl, inr, ℕ, cond, min, Some, List, [], ◌∷◌, length, map, take, All, sym, subst, arith, le_trans}
+use Rattle.std.proofs.Common.{◌≡◌, ◌≤◌, ◌<◌, ◌+◌, ◌-◌, ◌*◌, ◌/◌, inl, inr, ℕ, cond, min, Option, Some, List, [], ◌∷◌, length, map, take, All, sym, subst, arith, le_trans}
 use Rattle.std.specs.List.{AllZip}
 use Rattle.std.proofs.lemmas.List.Elements.{All-nil}
 use Rattle.std.proofs.lemmas.Bool.{cases_lt}
@@ -22,7 +22,6 @@ use Rattle.batch_result.specs.Numbered.{counts_at}
 use Rattle.batch_result.specs.Tables.{lists_for}
 use Rattle.batch_result.specs.Using.{IsUsed}
 use Rattle.batch_result.specs.declared.batch.Use.{Use}
-use Rattle.catalog_open.specs.declared.admissions.Stage.{Stage}
 use Rattle.catalog_open.specs.Admissions.{AreAdmitted}
 use Rattle.catalog_open.specs.Openings.{IsUnread}
 use Rattle.catalog_open.specs.Views.{nothing_told, view_over}
@@ -161,9 +160,9 @@ cut_every r cut some place wanted =
     let all = (cut.first some).0 in
     omega (arith, inside, all)
 
-none_ready : (view : View) (number : ℕ) (readies : List ReadyQuery) (stages : List Stage) → AreAdmitted view number [] stages readies → readies ≡ []
+none_ready : (view : View) (number : ℕ) (readies : List ReadyQuery) (outcomes : List (Option LineOutcome)) → AreAdmitted view number [] outcomes readies → readies ≡ []
 none_ready view number readies [] are = are
-none_ready view number readies (stage ∷ stages) are = absurd are
+none_ready view number readies (o ∷ outcomes) are = absurd are
 
 pub cut_lines_have_tables : (r : CatalogRun) (cut : RanOutOfMemory r) (tells : ShelfTellsTables r) → CutLinesHaveTables r cut (lists_read r (of_cut r cut) tells)
 cut_lines_have_tables r cut tells =
@@ -179,8 +178,8 @@ cut_lines_have_tables r cut tells =
     subst (IsTable ready.count) has.is has.table) in
     let none : cut.read.admitted ≡ 0 → All Tabled cut.read.readies =
     λ zeros.
-    let are = subst (λ n. AreAdmitted V 1 (take n r.lines) cut.read.stages cut.read.readies) zeros cut.read.are in
-    subst (All Tabled) (sym (none_ready V 1 cut.read.readies cut.read.stages are)) (All-nil Tabled) in
+    let are = subst (λ n. AreAdmitted V 1 (take n r.lines) cut.read.outcomes cut.read.readies) zeros cut.read.are in
+    subst (All Tabled) (sym (none_ready V 1 cut.read.readies cut.read.outcomes are)) (All-nil Tabled) in
     record {
       told = sym (are_read r (of_cut r cut) tells);
       tables = elim (cases_lt 0 cut.read.admitted) [ inl begins ↦ some begins | inr past ↦ none (omega (arith, past)) ];
