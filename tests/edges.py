@@ -24,6 +24,8 @@ from support import (DATA, MANY, begun, built, catalog, differs, first_differenc
 LINK_CALLS, FAILS, OPENED, FILE_READS, AHEAD = range(5)
 # The most seconds that the reads of a connection may take, and those that a connection may take to come about.
 LINK_SECONDS, DIAL_SECONDS = 300, 10
+# The seconds after which a server asks again for the size of a list that isn't open, and of one that states versions.
+PAUSE, AGE = 30, 600
 
 
 class Edges:
@@ -171,6 +173,40 @@ def link_gives_up(program: str) -> str | None:
             return first_difference(reply(port, request(LINES[0])), whole(body(LINES[0])))
 
 
+def lists_come_back(program: str) -> str | None:
+    """A server asks a list for its size again ten minutes after it asked last: it is answered at the version of then,
+    is NotOpened where its host is down, and is asked again half a minute later, and a minute after that."""
+    line, has = "top 1 by A using nra", {"version": 7}
+    closed = b"refused 1 NotOpened A\n"
+
+    def replies(target: str, _: int) -> bytes:
+        return answered(target, has["version"])
+
+    def at(version: int) -> bytes:
+        return worked_out([line], LISTS).replace(b"\ncount 3\n", b"\ncount 3\nversion A %d\n" % version)
+
+    with contextlib.ExitStack() as held, tempfile.TemporaryDirectory() as place:
+        edges, served = Edges(place), held.enter_context(host(replies))
+        write(place, "catalog.csv", catalog({"A": served.port}))
+        command = [program, "serve", "catalog.csv", "--conns", str(MANY)]
+        port, _ = held.enter_context(begun(command, place, env=edges.env))
+        # What happens, the seconds that have passed, and what the line becomes.
+        course = (("", 0, at(7)), ("replaced", AGE - 10, at(7)), ("", AGE, at(8)), ("down", 2 * AGE - 10, at(8)),
+                  ("", 2 * AGE, closed), ("", 2 * AGE + PAUSE, closed), ("back", 2 * AGE + 3 * PAUSE - 10, closed),
+                  ("", 2 * AGE + 3 * PAUSE, at(8)))
+        for happens, seconds, wanted in course:
+            has["version"] += happens == "replaced"
+            if happens == "down":
+                stop(served.listening)
+            if happens == "back":
+                held.enter_context(host(replies, port=served.port))
+            edges[AHEAD] = seconds
+            wrong = first_difference(reply(port, request(line)), whole(wanted))
+            if wrong is not None:
+                return f"after {seconds} s: {wrong}"
+    return None
+
+
 def until(holds: Callable[[], bool]) -> None:
     """Waits until something holds."""
     late = time.monotonic() + SECONDS
@@ -311,7 +347,8 @@ def cut_certificate(program: str) -> str | None:
 def tests() -> Iterator[tuple[str, Callable[[str], str | None]]]:
     """Each test with its name."""
     for test in (other_address, sizes_side_by_side, repeat_without_host, dial_gives_up, link_gives_up,
-                 each_call_of_server, each_call_of_node, memory_of_node, memory_of_server, replies_of_the_page):
+                 lists_come_back, each_call_of_server, each_call_of_node, memory_of_node, memory_of_server,
+                 replies_of_the_page):
         yield f"edges_{test.__name__}", over_network(test)
     for test in (read_once, grades_of_file, cut_certificate):
         yield f"edges_{test.__name__}", test

@@ -6,6 +6,7 @@ use std::io::ErrorKind;
 use std::rt::Files;
 use std::sync::Wait;
 use std::thread::Threads;
+use std::time::Clock;
 use std::{fs, io};
 use tk_io::{Intake, MemPort, MemSink, StdIntake};
 use topk_top::run_process;
@@ -15,7 +16,7 @@ const ROOM: u32 = 40_000;
 
 /// The exit status of an example, a line with a file and the words of a command, and whether what it wrote is the text that stands beside the
 /// file, under its name with the ending `.text`. An error where the line is none, or a file can't be read.
-pub fn run_example<R: Files + AllocGlobal + Threads + Wait + Sync, H: Shelf>(
+pub fn run_example<R: Files + AllocGlobal + Threads + Wait + Clock + Sync, H: Shelf>(
     rt: &R,
     shelf: &mut H,
     example: &str,
@@ -36,7 +37,7 @@ fn text_of<R: Files + AllocGlobal>(rt: &R, input: &str) -> io::Result<Vec<u8>> {
 }
 
 /// The exit status of a process over a file, and whether it wrote this text.
-fn run_over<R: Files + AllocGlobal + Threads + Wait + Sync, H: Shelf>(
+fn run_over<R: Files + AllocGlobal + Threads + Wait + Clock + Sync, H: Shelf>(
     rt: &R,
     shelf: &mut H,
     input: &str,
@@ -50,7 +51,7 @@ fn run_over<R: Files + AllocGlobal + Threads + Wait + Sync, H: Shelf>(
 }
 
 /// The exit status of a process over an input, at a port to which nobody comes, and whether it wrote this text.
-fn write_by<R: AllocGlobal + Threads + Wait + Sync, H: Shelf, I: Intake>(
+fn write_by<R: AllocGlobal + Threads + Wait + Clock + Sync, H: Shelf, I: Intake>(
     rt: &R,
     shelf: &mut H,
     given: Given<'_>,

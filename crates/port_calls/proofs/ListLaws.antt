@@ -53,7 +53,7 @@ sized_entry : (o : Opening) → IsSized (entry_of o)
 sized_entry Closed = tt
 sized_entry (Open size source version) = go (nat_le size MAX_OBJECTS) refl
   where
-    go : (b : Bool) → nat_le size MAX_OBJECTS ≡ b → IsSized (if b then Opened size source version else TooLarge size)
+    go : (b : Bool) → nat_le size MAX_OBJECTS ≡ b → IsSized (if b then Opened size source version else TooLarge size (Some source))
     go true e = leb-true size MAX_OBJECTS e
     go false e = let past = leb-false size MAX_OBJECTS e in omega (arith, past)
 
@@ -77,10 +77,10 @@ home_opened : (o : Opening) (source : ℕ) → home_of (entry_of o) ≡ Some sou
 home_opened Closed source h = absurd (cc)
 home_opened (Open size s version) source h = go (nat_le size MAX_OBJECTS) h
   where
-    go : (b : Bool) → home_of (if b then Opened size s version else TooLarge size) ≡ Some source
+    go : (b : Bool) → home_of (if b then Opened size s version else TooLarge size (Some s)) ≡ Some source
         → (size_is : ℕ) × (version_is : ℕ) × (Open size s version ≡ Open size_is source version_is)
     go true e = let same : s ≡ source = cc in (size, version, ap (λ t. Open size t version) same)
-    go false e = absurd (cc)
+    go false e = let same : s ≡ source = cc in (size, version, ap (λ t. Open size t version) same)
 
 open_there : (openings : List Opening) (place source : ℕ) → home_at (map home_of (map entry_of openings)) place ≡ Some source → OpenThere openings place source
 open_there [] place source h = absurd (cc)
@@ -120,7 +120,7 @@ module _ (lists : List ℕ → Option (List Row)) (versions : List ℕ → Optio
   hand_opened list at_hand slots places counts place Closed is = tt
   hand_opened {S} list at_hand slots places counts place (Open size source version) is = go (nat_le size MAX_OBJECTS)
     where
-      go : (b : Bool) → IsAtHand at_hand slots (if b then Opened size source version else TooLarge size)
+      go : (b : Bool) → IsAtHand at_hand slots (if b then Opened size source version else TooLarge size (Some source))
       go true = λ d l. sym is.1.at.at_hand ∙ get_or-map (of_slot at_hand) slots source d 0 l
       go false = tt
 

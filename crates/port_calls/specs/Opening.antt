@@ -1,5 +1,5 @@
 -- The lists of a catalog all of whose sources were opened.
-use Rattle.std.specs.Prelude.{◌≡◌, ◌<◌, ℕ, Bool, true, List, length, map, nat_le, replicate, if◌then◌else◌}
+use Rattle.std.specs.Prelude.{◌≡◌, ◌<◌, ℕ, Bool, true, List, None, Some, length, map, nat_le, replicate, if◌then◌else◌}
 use Rattle.topk_base.specs.declared.TheConstants.{MAX_OBJECTS}
 use Rattle.catalog_text.specs.Catalog.{Listed as Entry}
 use Rattle.catalog_open.specs.declared.opened.Opening.{Opening}
@@ -11,8 +11,8 @@ use Rattle.command_line.specs.Shelves.{Shelf, TellsTheSame}
 
 -- what becomes of a list by what became of its source: one that states more objects than a list may have is too large
 abbrev pub entry_of : Opening → OpenedEntry
-entry_of Closed = NotOpened
-entry_of (Open size source version) = if nat_le size MAX_OBJECTS then Opened size source version else TooLarge size
+entry_of Closed = NotOpened None
+entry_of (Open size source version) = if nat_le size MAX_OBJECTS then Opened size source version else TooLarge size (Some source)
 
 -- each source of a catalog is marked
 abbrev pub every : List Entry → List Bool

@@ -14,7 +14,7 @@ fn entry_of(opening: Opening) -> OpenedEntry
     ensures { result ≡ entry_of opening }
 {
     match opening {
-        Opening::Closed => OpenedEntry::NotOpened,
+        Opening::Closed => OpenedEntry::NotOpened { source: None },
         Opening::Open {
             size,
             source,
@@ -27,7 +27,10 @@ fn entry_of(opening: Opening) -> OpenedEntry
                     version,
                 }
             } else {
-                OpenedEntry::TooLarge { count: size }
+                OpenedEntry::TooLarge {
+                    count: size,
+                    source: Some(source),
+                }
             }
         }
     }

@@ -16,6 +16,7 @@ use source_api::{FailKind, Shelf, Trouble};
 use std::alloc::Global;
 use std::sync::Wait;
 use std::thread::Threads;
+use std::time::Clock;
 use tk_io::{Port, Sink};
 
 /// Serves queries over the lists of a catalog at a port: each link gets the reply to its one request. The catalog's text is asked of the shelf
@@ -31,7 +32,7 @@ use tk_io::{Port, Sink};
 /// - `Memory`: no memory was left; nothing was written.
 ///
 /// No other status comes.
-pub fn serve<W: Threads + Wait + Sync, H: Shelf, K: Sink, P: Port>(
+pub fn serve<W: Threads + Wait + Clock + Sync, H: Shelf, K: Sink, P: Port>(
     rt: &W,
     alloc: Global,
     options: &ServeOptions,

@@ -23,11 +23,12 @@ use source_api::{Shelf, Source};
 use std::alloc::Global;
 use std::sync::Wait;
 use std::thread::Threads;
+use std::time::Clock;
 use tk_io::Port;
 use topk_base::Memory;
 
 /// Takes the source of each list of a catalog, listens at the port, serves its links over the lists, and puts the sources back, however that ends.
-pub(crate) fn serve_lists<W: Threads + Wait + Sync, H: Shelf, P: Port>(
+pub(crate) fn serve_lists<W: Threads + Wait + Clock + Sync, H: Shelf, P: Port>(
     rt: &W,
     alloc: Global,
     catalog: Catalog,
@@ -86,7 +87,7 @@ fn open_all<W: Threads + Sync, H: Shelf>(
 }
 
 /// Listens at the port, and serves its links over the lists.
-fn serve_at<W: Threads + Wait + Sync, S: Source, P: Port>(
+fn serve_at<W: Threads + Wait + Clock + Sync, S: Source, P: Port>(
     rt: &W,
     alloc: Global,
     options: &ServeOptions,

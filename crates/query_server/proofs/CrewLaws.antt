@@ -19,8 +19,8 @@ is_there counts holds (Opened count source version) size named counted = (
   (let l = counted.0 in omega (arith, l, size)),
   named source counted.0 ∙ counted.1,
 )
-is_there counts holds NotOpened size named counted = tt
-is_there counts holds (TooLarge count) size named counted = tt
+is_there counts holds (NotOpened home) size named counted = tt
+is_there counts holds (TooLarge count home) size named counted = tt
 
 may_answer : (o : Openings) (counts : List ℕ) (pool : List TableId) (tickets : TableId) (worker : Worker) → length pool ≡ length counts
     → IsHired pool tickets counts worker → All (IsCounted counts) o.entries → MayAnswer o pool worker.pass

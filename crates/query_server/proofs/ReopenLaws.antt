@@ -1,5 +1,5 @@
 -- Sources that are asked for their sizes again, and what becomes of their lists.
-use Rattle.std.proofs.Common.{◌≡◌, ◌≢◌, ◌≤◌, ◌<◌, ◌+◌, ◌⊎◌, ℕ, List, [], ◌∷◌, ◌++◌, Option, Some, None, Result, Ok, Err, IfOk, IfSome, All, length, slice_index_or, slice_set, refl, sym, ap, subst, ◌∙◌, inl, inr, arith}
+use Rattle.std.proofs.Common.{◌≡◌, ◌≢◌, ◌≤◌, ◌<◌, ◌+◌, ◌⊎◌, ℕ, List, [], ◌∷◌, ◌++◌, Option, Some, None, Result, Ok, Err, IfOk, IfSome, All, length, map, slice_index_or, slice_set, refl, sym, ap, subst, ◌∙◌, inl, inr, arith}
 use Rattle.std.proofs.lemmas.Bool.{cases_lt}
 use Rattle.std.proofs.lemmas.Bool.Decides.{eqb_tells}
 use Rattle.std.proofs.lemmas.Option.{same_Some}
@@ -14,20 +14,21 @@ use Rattle.fetcher.specs.declared.slot.Slot.{Slot}
 use Rattle.server_conn.specs.declared.opened.OpenedEntry.{OpenedEntry}
 use Rattle.server_conn.specs.declared.opened.OpenedEntry.TheVariants.{Opened, NotOpened, TooLarge}
 use Rattle.source_api.proofs.CountLaws.{none_fell_same}
-use Rattle.query_server.specs.Homes.{home_at, entry_at, AreAtHome, AreHomes, IsAtHome}
+use Rattle.query_server.specs.Homes.{home_at, home_of, entry_at, AreHomes}
 use Rattle.query_server.specs.Reopening.{AsksOne, AsksSome, HasAnswer, HasCauseInCounts, IsAsStated, IsAsked, IsAtHand, IsByItsSize, Reopens, ReopensAll, ReopensAt}
 use Rattle.query_server.specs.Serving.{KeepsSources, KeepsVersions}
+use Rattle.query_server.proofs.HomeLaws.{home_map}
 
 -- a list by the size that its source answered
 has_answer : (size at_hand : ℕ) (entry : OpenedEntry) → IsByItsSize size at_hand entry → HasAnswer (Ok size) entry
 has_answer size at_hand (Opened count source version) is = ap Ok (sym is.0)
-has_answer size at_hand NotOpened is = absurd is
-has_answer size at_hand (TooLarge count) is = ap Ok (sym is)
+has_answer size at_hand (NotOpened source) is = absurd is
+has_answer size at_hand (TooLarge count source) is = ap Ok (sym is)
 
 quiet_so : (before now : Counts) (size at_hand : ℕ) (entry : OpenedEntry) → IsByItsSize size at_hand entry → now ≡ before → HasCauseInCounts before now entry
 quiet_so before now size at_hand (Opened count source version) is quiet = quiet
-quiet_so before now size at_hand NotOpened is quiet = absurd is
-quiet_so before now size at_hand (TooLarge count) is quiet = quiet
+quiet_so before now size at_hand (NotOpened source) is quiet = absurd is
+quiet_so before now size at_hand (TooLarge count source) is quiet = quiet
 
 counted_so : (told : Option (List Row)) (count size : ℕ) → count ≡ size → IfSome told (λ rows. size ≡ length rows) → IfSome told (λ rows. count ≡ length rows)
 counted_so None count size is length_is = tt
@@ -36,8 +37,12 @@ counted_so (Some rows) count size is length_is = is ∙ length_is
 stated_so : (told : Option (List Row)) (size at_hand : ℕ) (entry : OpenedEntry) → IsByItsSize size at_hand entry → IfSome told (λ rows. size ≡ length rows)
     → IsAsStated told at_hand entry
 stated_so told size at_hand (Opened count source version) is length_is = (is.1, counted_so told count size is.0 length_is)
-stated_so told size at_hand NotOpened is length_is = absurd is
-stated_so told size at_hand (TooLarge count) is length_is = counted_so told count size is length_is
+stated_so told size at_hand (NotOpened source) is length_is = absurd is
+stated_so told size at_hand (TooLarge count source) is length_is = counted_so told count size is length_is
+
+-- a list has the source that it had
+same_home : (entries now : List OpenedEntry) (place : ℕ) → map home_of now ≡ map home_of entries → home_of (entry_at entries place) ≡ home_of (entry_at now place)
+same_home entries now place same = sym (home_map entries place) ∙ (ap (λ hs. home_at hs place) (sym same) ∙ home_map now place)
 
 module _ {S : Type 0} (list : S → Option (List Row)) (counts : S → Counts) (calls : S → Option (List Call)) where
   -- the sources of the lists before a place were asked, and no other
@@ -78,6 +83,12 @@ module _ {S : Type 0} (list : S → Option (List Row)) (counts : S → Counts) (
     others = λ i d apart. one.others i d (apart place (omega arith)) ∙ so.others i d (λ p l. apart p (omega (arith, l)));
   }
 
+  -- the source of the list at a place
+  pub asks_there : (entries : List OpenedEntry) (place : ℕ) (x : OpenedEntry) (mid now : List (Slot S)) → place < length entries
+      → AsksOne list counts calls (home_of (slice_index_or entries place x)) mid now → AsksOne list counts calls (home_at (map home_of entries) place) mid now
+  asks_there entries place x mid now within =
+      subst (λ h. AsksOne list counts calls h mid now) (ap home_of (get_or_default entries place x (NotOpened None) within) ∙ sym (home_map entries place))
+
   pub asked_all : (place : ℕ) (homes : List (Option ℕ)) (before now : List (Slot S)) → AskedTo place homes before now → AsksSome list counts calls homes before now
   asked_all place homes before now so = record { size = so.size; each = so.each; others = λ i d apart. so.others i d (λ p l. apart p) }
 
@@ -95,11 +106,11 @@ module _ {S : Type 0} (list : S → Option (List Row)) (counts : S → Counts) (
   }
 
   -- a source answered no size, and its list isn't open
-  pub reopens_not : (before after : S) (why : Trouble) → calls after ≡ with_call (Call.Size (Err why)) (calls before) → list after ≡ list before
+  pub reopens_not : (before after : S) (why : Trouble) (source : Option ℕ) → calls after ≡ with_call (Call.Size (Err why)) (calls before) → list after ≡ list before
       → NoneFell (counts before) (counts after) → GaveNothing (counts before) (counts after)
       → Rose (counts before).faults (counts after).faults ⊎ Rose (counts before).garbles (counts after).garbles
-      → Reopens list counts calls at_hand before after NotOpened
-  reopens_not before after why call told later given cause = record {
+      → Reopens list counts calls at_hand before after (NotOpened source)
+  reopens_not before after why source call told later given cause = record {
     asked = record { answer = Err why; call = call; told = told; later = later; given = given };
     answer = (why, refl);
     cause = cause;
@@ -129,9 +140,9 @@ module _ {S : Type 0} (list : S → Option (List Row)) (counts : S → Counts) (
       (some_reopens before at x source entry result within is)
 
   -- of the lists before a place it is known what became of them
-  pub record BecameTo (place : ℕ) (homes : List (Option ℕ)) (entries now : List OpenedEntry) (before slots : List (Slot S)) : Type 0 where
+  pub record BecameTo (place : ℕ) (entries now : List OpenedEntry) (before slots : List (Slot S)) : Type 0 where
     pub size : length now ≡ place
-    pub each : (p : ℕ) → p < place → ReopensAt list counts calls at_hand before slots (home_at homes p) (entry_at entries p) (entry_at now p)
+    pub each : (p : ℕ) → p < place → ReopensAt list counts calls at_hand before slots (home_of (entry_at entries p)) (entry_at entries p) (entry_at now p)
 
   -- what became of a list stays so where its source stays
   still : (before mid after : List (Slot S)) (home : Option ℕ) (entry now : OpenedEntry)
@@ -149,75 +160,87 @@ module _ {S : Type 0} (list : S → Option (List Row)) (counts : S → Counts) (
   since before mid after (Some source) entry now same is =
       λ d. subst (λ (s : Slot S). Reopens list counts calls at_hand s.source (slice_index_or after source d).source now) (same source d refl) (is d)
 
-  pub became_more : (sources place : ℕ) (homes : List (Option ℕ)) (entries was now : List OpenedEntry) (x entry : OpenedEntry) (before mid after : List (Slot S))
-      → place < length entries → AreHomes sources homes → AskedTo list counts calls place homes before mid → BecameTo place homes entries was before mid
-      → AsksOne list counts calls (home_at homes place) mid after
-      → ReopensAt list counts calls at_hand mid after (home_at homes place) (slice_index_or entries place x) entry → now ≡ was ++ entry ∷ []
-      → BecameTo (place + 1) homes entries now before after
-  became_more sources place homes entries was now x entry before mid after within are asked so one is push =
+  pub became_more : (sources place : ℕ) (entries was now : List OpenedEntry) (x entry : OpenedEntry) (before mid after : List (Slot S))
+      → place < length entries → AreHomes sources (map home_of entries) → AskedTo list counts calls place (map home_of entries) before mid
+      → BecameTo place entries was before mid → AsksOne list counts calls (home_of (slice_index_or entries place x)) mid after
+      → ReopensAt list counts calls at_hand mid after (home_of (slice_index_or entries place x)) (slice_index_or entries place x) entry → now ≡ was ++ entry ∷ []
+      → BecameTo (place + 1) entries now before after
+  became_more sources place entries was now x entry before mid after within are asked so asks is push =
       let long : length now ≡ length was + 1 = ap length push ∙ length_push was entry in
       let size = so.size in
+      let here : slice_index_or entries place x ≡ entry_at entries place = get_or_default entries place x (NotOpened None) within in
+      let one : AsksOne list counts calls (home_of (entry_at entries place)) mid after = subst (λ o. AsksOne list counts calls (home_of o) mid after) here asks in
+      let at : (p source : ℕ) → home_of (entry_at entries p) ≡ Some source → home_at (map home_of entries) p ≡ Some source = λ p source h. home_map entries p ∙ h in
       record {
         size = omega (arith, long, size);
-        each = λ p l. subst (λ es. ReopensAt list counts calls at_hand before after (home_at homes p) (entry_at entries p) (entry_at es p)) (sym push) (elim (cases_lt p place) [
+        each = λ p l. subst (λ es. ReopensAt list counts calls at_hand before after (home_of (entry_at entries p)) (entry_at entries p) (entry_at es p)) (sym push) (elim (cases_lt p place) [
           | inl less ↦
-              subst (ReopensAt list counts calls at_hand before after (home_at homes p) (entry_at entries p))
-              (sym (get_or_append_left was (entry ∷ []) NotOpened p (omega (arith, less, size))))
-              (still before mid after (home_at homes p) (entry_at entries p) (entry_at was p)
-              (λ source d e. one.others source d (λ mine. let same : p ≡ place = are.apart p place source e mine in omega (arith, less, same))) (so.each p less))
+              subst (ReopensAt list counts calls at_hand before after (home_of (entry_at entries p)) (entry_at entries p))
+              (sym (get_or_append_left was (entry ∷ []) (NotOpened None) p (omega (arith, less, size))))
+              (still before mid after (home_of (entry_at entries p)) (entry_at entries p) (entry_at was p)
+              (λ source d e. one.others source d (λ mine. let same : p ≡ place = are.apart p place source (at p source e) (at place source mine) in omega (arith, less, same)))
+              (so.each p less))
           | inr more ↦ let same : place ≡ p = omega (arith, more, l) in
-              subst (ReopensAt list counts calls at_hand before after (home_at homes p) (entry_at entries p))
-              (sym (get_or_push was entry NotOpened p (omega (arith, same, size))))
-              (subst (λ q. ReopensAt list counts calls at_hand before after (home_at homes q) (entry_at entries q) entry) same
-              (since before mid after (home_at homes place) (entry_at entries place) entry (λ source d e. untouched list counts calls sources place homes before mid source d are asked e)
-              (subst (λ was_entry. ReopensAt list counts calls at_hand mid after (home_at homes place) was_entry entry) (get_or_default entries place x NotOpened within) is)))
+              subst (ReopensAt list counts calls at_hand before after (home_of (entry_at entries p)) (entry_at entries p))
+              (sym (get_or_push was entry (NotOpened None) p (omega (arith, same, size))))
+              (subst (λ q. ReopensAt list counts calls at_hand before after (home_of (entry_at entries q)) (entry_at entries q) entry) same
+              (since before mid after (home_of (entry_at entries place)) (entry_at entries place) entry
+              (λ source d e. untouched list counts calls sources place (map home_of entries) before mid source d are asked (at place source e))
+              (subst (λ o. ReopensAt list counts calls at_hand mid after (home_of o) o entry) here is)))
         ]);
       }
 
   -- past the last list
-  pub became_all : (place : ℕ) (homes : List (Option ℕ)) (entries now : List OpenedEntry) (before slots : List (Slot S)) → length homes ≡ length entries
-      → length entries ≤ place → BecameTo place homes entries now before slots → ReopensAll list counts calls at_hand homes entries now before slots
-  became_all place homes entries now before slots many far so = record {
+  pub became_all : (place : ℕ) (entries now : List OpenedEntry) (before slots : List (Slot S)) → length entries ≤ place → BecameTo place entries now before slots
+      → ReopensAll list counts calls at_hand entries now before slots
+  became_all place entries now before slots far so = record {
     each = λ p. elim (cases_lt p place) [
       | inl less ↦ so.each p less
       | inr more ↦
-          subst (λ h. ReopensAt list counts calls at_hand before slots h (entry_at entries p) (entry_at now p)) (sym (get_or_past homes p None (omega (arith, many, far, more))))
-          (get_or_past now p NotOpened (let size = so.size in omega (arith, size, more)) ∙ sym (get_or_past entries p NotOpened (omega (arith, far, more))))
+          let none : entry_at entries p ≡ NotOpened None = get_or_past entries p (NotOpened None) (omega (arith, far, more)) in
+          subst (λ o. ReopensAt list counts calls at_hand before slots (home_of o) o (entry_at now p)) (sym none)
+          (get_or_past now p (NotOpened None) (let size = so.size in omega (arith, size, more)))
     ];
   }
 
   -- a list that is open is at the version that its source answered
-  hand_of : (before after : List (Slot S)) (home : Option ℕ) (was now : OpenedEntry) → IsAtHome home now → ReopensAt list counts calls at_hand before after home was now
-      → IsAtHand at_hand after now
+  hand_of : (before after : List (Slot S)) (home : Option ℕ) (was now : OpenedEntry) → home ≡ home_of now
+      → ReopensAt list counts calls at_hand before after home was now → IsAtHand at_hand after now
   hand_of before after home was (Opened count source version) at is =
       λ d l. (subst (λ h. ReopensAt list counts calls at_hand before after h was (Opened count source version)) at is d).stated.0
-  hand_of before after home was NotOpened at is = tt
-  hand_of before after home was (TooLarge count) at is = tt
+  hand_of before after home was (NotOpened source) at is = tt
+  hand_of before after home was (TooLarge count source) at is = tt
 
-  pub hand_reopened : (homes : List (Option ℕ)) (entries now : List OpenedEntry) (before after : List (Slot S)) → AreAtHome homes now
-      → ReopensAll list counts calls at_hand homes entries now before after → All (IsAtHand at_hand after) now
-  hand_reopened homes entries now before after at so i d l =
-      subst (IsAtHand at_hand after) (get_or_default now i NotOpened d l)
-      (hand_of before after (home_at homes i) (entry_at entries i) (entry_at now i) (at.each i) (so.each i))
+  pub hand_reopened : (entries now : List OpenedEntry) (before after : List (Slot S)) → map home_of now ≡ map home_of entries
+      → ReopensAll list counts calls at_hand entries now before after → All (IsAtHand at_hand after) now
+  hand_reopened entries now before after same so i d l =
+      subst (IsAtHand at_hand after) (get_or_default now i (NotOpened None) d l)
+      (hand_of before after (home_of (entry_at entries i)) (entry_at entries i) (entry_at now i) (same_home entries now i same) (so.each i))
 
-module _ {S : Type 0} (list : S → Option (List Row)) (counts : S → Counts) (calls : S → Option (List Call)) (at_hand : S → ℕ) where
+  -- a list that was asked again in two generations is as its source answered in the last
   again_at : (before after : List (Slot S)) (home : Option ℕ) (first was now : OpenedEntry) → (home ≡ None → was ≡ first)
       → ReopensAt list counts calls at_hand before after home was now → ReopensAt list counts calls at_hand before after home first now
   again_at before after None first was now same is = is ∙ same refl
   again_at before after (Some source) first was now same is = is
 
-  -- lists that were asked again before became what they are by the last answers alone
-  pub reopened_since : (homes : List (Option ℕ)) (first was now : List OpenedEntry) (before after : List (Slot S))
-      → ((place : ℕ) → home_at homes place ≡ None → entry_at was place ≡ entry_at first place)
-      → ReopensAll list counts calls at_hand homes was now before after → ReopensAll list counts calls at_hand homes first now before after
-  reopened_since homes first was now before after stay so =
-      record { each = λ place. again_at before after (home_at homes place) (entry_at first place) (entry_at was place) (entry_at now place) (stay place) (so.each place) }
-
   -- a list without a source stays as it was
-  pub stay_reopened : (homes : List (Option ℕ)) (first was : List OpenedEntry) (before after : List (Slot S)) → ReopensAll list counts calls at_hand homes first was before after
-      → (place : ℕ) → home_at homes place ≡ None → entry_at was place ≡ entry_at first place
-  stay_reopened homes first was before after so place none =
-      subst (λ h. ReopensAt list counts calls at_hand before after h (entry_at first place) (entry_at was place)) none (so.each place)
+  stays_at : (before after : List (Slot S)) (home : Option ℕ) (entry now : OpenedEntry) → ReopensAt list counts calls at_hand before after home entry now
+      → home ≡ None → now ≡ entry
+  stays_at before after home entry now is none = subst (λ h. ReopensAt list counts calls at_hand before after h entry now) none is
+
+  pub reopened_since : (first was now : List OpenedEntry) (before after : List (Slot S)) → map home_of was ≡ map home_of first
+      → ((place : ℕ) → home_of (entry_at first place) ≡ None → entry_at was place ≡ entry_at first place)
+      → ReopensAll list counts calls at_hand was now before after → ReopensAll list counts calls at_hand first now before after
+  reopened_since first was now before after same stay so = record {
+    each = λ place.
+        again_at before after (home_of (entry_at first place)) (entry_at first place) (entry_at was place) (entry_at now place) (stay place)
+        (subst (λ h. ReopensAt list counts calls at_hand before after h (entry_at was place) (entry_at now place)) (sym (same_home first was place same)) (so.each place));
+  }
+
+  pub stay_reopened : (first was : List OpenedEntry) (before after : List (Slot S)) → ReopensAll list counts calls at_hand first was before after
+      → (place : ℕ) → home_of (entry_at first place) ≡ None → entry_at was place ≡ entry_at first place
+  stay_reopened first was before after so place none =
+      stays_at before after (home_of (entry_at first place)) (entry_at first place) (entry_at was place) (so.each place) none
 
 -- what asking leaves of the sources
 pub keeps_asked : {S : Type 0} (list : S → Option (List Row)) (counts : S → Counts) (calls : S → Option (List Call)) (homes : List (Option ℕ)) (before after : List (Slot S))
@@ -240,8 +263,8 @@ hand_still : {S : Type 0} (at_hand : S → ℕ) (before after : List (Slot S)) (
     → IsAtHand at_hand before entry → IsAtHand at_hand after entry
 hand_still at_hand before after (Opened count source version) size keeps is =
     λ d l. let there : source < length before = omega (arith, size, l) in is d there ∙ sym (keeps.each source d there)
-hand_still at_hand before after NotOpened size keeps is = tt
-hand_still at_hand before after (TooLarge count) size keeps is = tt
+hand_still at_hand before after (NotOpened source) size keeps is = tt
+hand_still at_hand before after (TooLarge count source) size keeps is = tt
 
 pub hand_served : {S : Type 0} (at_hand : S → ℕ) (before after : List (Slot S)) (entries : List OpenedEntry) → length after ≡ length before
     → KeepsVersions at_hand before after → All (IsAtHand at_hand before) entries → All (IsAtHand at_hand after) entries

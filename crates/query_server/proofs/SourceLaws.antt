@@ -12,10 +12,9 @@ use Rattle.source_pool.specs.Passes.{Feed}
 use Rattle.batch_run.specs.Slots.{SlotState, AllFetch, AreLent, AreTakenBack}
 use Rattle.server_conn.specs.Entries.{Openings}
 use Rattle.server_conn.specs.declared.opened.OpenedEntry.{OpenedEntry}
-use Rattle.query_server.specs.Homes.{AreAtHome, entry_at, home_at, home_of}
+use Rattle.query_server.specs.Homes.{entry_at, home_of}
 use Rattle.query_server.specs.Reopening.{AsksSome, ReopensAll}
 use Rattle.query_server.specs.Serving.{KeepsSources, KeepsVersions, Leaves, WereReopened}
-use Rattle.query_server.proofs.HomeLaws.{all_at_home}
 use Rattle.query_server.proofs.ReopenLaws.{keeps_asked, reopened_since, stay_reopened}
 
 module _ {S : Type 0} (list : S → Option (List Row)) (counts : S → Counts) where
@@ -59,58 +58,67 @@ module _ {S : Type 0} (list : S → Option (List Row)) (counts : S → Counts) w
       }
 
 module _ {S : Type 0} (list : S → Option (List Row)) (counts : S → Counts) (calls : S → Option (List Call)) (at_hand : S → ℕ) where
+  -- where the lists stayed
+  pub leaves_kept : (before after : List (Slot S)) (o now : Openings) → KeepsSources list counts before after → All (λ slot. slot.feeder ≡ None) after
+      → now.catalog ≡ o.catalog → now.entries ≡ o.entries → Leaves list counts calls at_hand before after o now
+  leaves_kept before after o now kept empty catalog same =
+      record { kept = kept; empty = empty; catalog = catalog; homes = ap (map home_of) same; lists = inl same }
+
   -- where nothing was done
-  pub leaves_same : (slots : List (Slot S)) (o : Openings) → All (λ slot. slot.feeder ≡ None) slots
-      → Leaves list counts calls at_hand (map home_of o.entries) slots slots o o
-  leaves_same slots o empty = record { kept = keeps_same list counts slots; empty = empty; catalog = refl; home = all_at_home o.entries; lists = inl refl }
+  pub leaves_same : (slots : List (Slot S)) (o : Openings) → All (λ slot. slot.feeder ≡ None) slots → Leaves list counts calls at_hand slots slots o o
+  leaves_same slots o empty = leaves_kept slots slots o o (keeps_same list counts slots) empty refl refl
 
-  -- lists are as they became, whatever was done to the sources since
-  lists_on : (homes : List (Option ℕ)) (before mid after : List (Slot S)) (first was now : List OpenedEntry) → KeepsSources list counts mid after → now ≡ was
-      → (was ≡ first) ⊎ WereReopened list counts calls at_hand homes before mid first was
-      → (now ≡ first) ⊎ WereReopened list counts calls at_hand homes before after first now
-  lists_on homes before mid after first was now kept same (inl none) = inl (same ∙ none)
-  lists_on homes before mid after first was now kept same (inr re) = inr (record {
-    asked = re.asked;
-    answered = re.answered;
-    until = re.until;
-    became = subst (λ es. ReopensAll list counts calls at_hand homes first es re.asked re.answered) (sym same) re.became;
-    since = keeps_on list counts re.answered mid after re.since kept;
-  })
+  -- where the lists became what their sources answered in the end
+  pub were_reopened : (before mid after : List (Slot S)) (entries now : List OpenedEntry) → KeepsSources list counts before mid
+      → ReopensAll list counts calls at_hand entries now mid after → WereReopened list counts calls at_hand before after entries now
+  were_reopened before mid after entries now until so =
+      record { asked = mid; answered = after; until = until; became = so; since = keeps_same list counts after }
 
-  -- where sources were called after what was done, and the lists stayed
-  pub leaves_on : (homes : List (Option ℕ)) (before mid after : List (Slot S)) (o then_ now : Openings) → Leaves list counts calls at_hand homes before mid o then_
-      → KeepsSources list counts mid after → All (λ slot. slot.feeder ≡ None) after → now.catalog ≡ then_.catalog → now.entries ≡ then_.entries
-      → Leaves list counts calls at_hand homes before after o now
-  leaves_on homes before mid after o then_ now left kept empty catalog same = record {
-    kept = keeps_on list counts before mid after left.kept kept;
+  pub leaves_reopened : (before mid after : List (Slot S)) (o now : Openings) → KeepsSources list counts before mid
+      → AsksSome list counts calls (map home_of o.entries) mid after → ReopensAll list counts calls at_hand o.entries now.entries mid after
+      → All (λ slot. slot.feeder ≡ None) after → now.catalog ≡ o.catalog → map home_of now.entries ≡ map home_of o.entries
+      → Leaves list counts calls at_hand before after o now
+  leaves_reopened before mid after o now until asks so empty catalog homes = record {
+    kept = keeps_on list counts before mid after until (keeps_asked list counts calls (map home_of o.entries) mid after asks);
     empty = empty;
-    catalog = catalog ∙ left.catalog;
-    home = subst (AreAtHome homes) (sym same) left.home;
-    lists = lists_on homes before mid after o.entries then_.entries now.entries kept same left.lists;
+    catalog = catalog;
+    homes = homes;
+    lists = inr (were_reopened before mid after o.entries now.entries until so);
   }
 
   -- a list without a source is as it was at first
-  stay : (homes : List (Option ℕ)) (before mid : List (Slot S)) (first was : List OpenedEntry)
-      → (was ≡ first) ⊎ WereReopened list counts calls at_hand homes before mid first was
-      → (place : ℕ) → home_at homes place ≡ None → entry_at was place ≡ entry_at first place
-  stay homes before mid first was (inl same) place none = ap (λ es. entry_at es place) same
-  stay homes before mid first was (inr re) place none = stay_reopened list counts calls at_hand homes first was re.asked re.answered re.became place none
+  stay : (before mid : List (Slot S)) (first was : List OpenedEntry) → (was ≡ first) ⊎ WereReopened list counts calls at_hand before mid first was
+      → (place : ℕ) → home_of (entry_at first place) ≡ None → entry_at was place ≡ entry_at first place
+  stay before mid first was (inl same) place none = ap (λ es. entry_at es place) same
+  stay before mid first was (inr re) place none = stay_reopened list counts calls at_hand first was re.asked re.answered re.became place none
 
-  -- where the lists became what their sources answered after what was done
-  pub leaves_anew : (homes : List (Option ℕ)) (before mid after : List (Slot S)) (o then_ now : Openings) → Leaves list counts calls at_hand homes before mid o then_
-      → AsksSome list counts calls homes mid after → ReopensAll list counts calls at_hand homes then_.entries now.entries mid after
-      → All (λ slot. slot.feeder ≡ None) after → now.catalog ≡ then_.catalog → AreAtHome homes now.entries
-      → Leaves list counts calls at_hand homes before after o now
-  leaves_anew homes before mid after o then_ now left asks so empty catalog home = record {
-    kept = keeps_on list counts before mid after left.kept (keeps_asked list counts calls homes mid after asks);
-    empty = empty;
-    catalog = catalog ∙ left.catalog;
-    home = home;
-    lists = inr (record {
-      asked = mid;
-      answered = after;
-      until = left.kept;
-      became = reopened_since list counts calls at_hand homes o.entries then_.entries now.entries mid after (stay homes before mid o.entries then_.entries left.lists) so;
-      since = keeps_same list counts after;
-    });
+  -- the last answers alone say what became of the lists
+  lists_then : (before mid after : List (Slot S)) (first was now : List OpenedEntry) → KeepsSources list counts before mid → KeepsSources list counts mid after
+      → map home_of was ≡ map home_of first → (was ≡ first) ⊎ WereReopened list counts calls at_hand before mid first was
+      → (now ≡ was) ⊎ WereReopened list counts calls at_hand mid after was now → (now ≡ first) ⊎ WereReopened list counts calls at_hand before after first now
+  lists_then before mid after first was now kept then_ homes (inl none) (inl same) = inl (same ∙ none)
+  lists_then before mid after first was now kept then_ homes (inr re) (inl same) = inr (record {
+    asked = re.asked;
+    answered = re.answered;
+    until = re.until;
+    became = subst (λ es. ReopensAll list counts calls at_hand first es re.asked re.answered) (sym same) re.became;
+    since = keeps_on list counts re.answered mid after re.since then_;
+  })
+  lists_then before mid after first was now kept then_ homes so (inr re) = inr (record {
+    asked = re.asked;
+    answered = re.answered;
+    until = keeps_on list counts before mid re.asked kept re.until;
+    became = reopened_since list counts calls at_hand first was now re.asked re.answered homes (stay before mid first was so) re.became;
+    since = re.since;
+  })
+
+  -- one generation after another
+  pub leaves_then : (before mid after : List (Slot S)) (o then_ now : Openings) → Leaves list counts calls at_hand before mid o then_
+      → Leaves list counts calls at_hand mid after then_ now → Leaves list counts calls at_hand before after o now
+  leaves_then before mid after o then_ now first next = record {
+    kept = keeps_on list counts before mid after first.kept next.kept;
+    empty = next.empty;
+    catalog = next.catalog ∙ first.catalog;
+    homes = next.homes ∙ first.homes;
+    lists = lists_then before mid after o.entries then_.entries now.entries first.kept next.kept first.homes first.lists next.lists;
   }

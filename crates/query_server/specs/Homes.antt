@@ -3,52 +3,37 @@ use Rattle.std.specs.Prelude.{◌≡◌, ◌<◌, ℕ, ⊤, List, Option, Some, 
 use Rattle.server_conn.specs.declared.opened.OpenedEntry.{OpenedEntry}
 use Rattle.server_conn.specs.declared.opened.OpenedEntry.TheVariants.{Opened, NotOpened, TooLarge}
 
--- the source of a list that is open
+-- the source of a list, open or not, if it was taken
 abbrev pub home_of : OpenedEntry → Option ℕ
 home_of (Opened count source version) = Some source
-home_of NotOpened = None
-home_of (TooLarge count) = None
+home_of (NotOpened source) = source
+home_of (TooLarge count source) = source
 
 abbrev pub home_at : List (Option ℕ) → ℕ → Option ℕ
 home_at homes place = slice_index_or homes place None
 
 abbrev pub entry_at : List OpenedEntry → ℕ → OpenedEntry
-entry_at entries place = slice_index_or entries place NotOpened
+entry_at entries place = slice_index_or entries place (NotOpened None)
 
 -- these are sources of so many, and no two lists have the same
 pub record AreHomes (sources : ℕ) (homes : List (Option ℕ)) : Type 0 where
   pub within : (place source : ℕ) → home_at homes place ≡ Some source → source < sources
   pub apart : (place other source : ℕ) → home_at homes place ≡ Some source → home_at homes other ≡ Some source → place ≡ other
 
--- a list that is open has the source that it had from the beginning
-abbrev pub IsAtHome : Option ℕ → OpenedEntry → Type 0
-IsAtHome home (Opened count source version) = home ≡ Some source
-IsAtHome home NotOpened = ⊤
-IsAtHome home (TooLarge count) = ⊤
-
-pub record AreAtHome (homes : List (Option ℕ)) (entries : List OpenedEntry) : Type 0 where
-  pub each : (place : ℕ) → IsAtHome (home_at homes place) (entry_at entries place)
-
--- each list that is open has a source of its own, of so many
-pub record HaveHomes (sources : ℕ) (entries : List OpenedEntry) : Type 0 where
-  pub homes : List (Option ℕ)
-  pub are : AreHomes sources homes
-  pub at : AreAtHome homes entries
-
 -- the source of an open list is one of so many
 abbrev pub IsWithin : ℕ → OpenedEntry → Type 0
 IsWithin sources (Opened count source version) = source < sources
-IsWithin sources NotOpened = ⊤
-IsWithin sources (TooLarge count) = ⊤
+IsWithin sources (NotOpened source) = ⊤
+IsWithin sources (TooLarge count source) = ⊤
 
 -- the counts of the sources say of the source of an open list as many objects as the list has
 abbrev pub IsCounted : List ℕ → OpenedEntry → Type 0
 IsCounted counts (Opened count source version) = (source < length counts) × (slice_index_or counts source 0 ≡ count)
-IsCounted counts NotOpened = ⊤
-IsCounted counts (TooLarge count) = ⊤
+IsCounted counts (NotOpened source) = ⊤
+IsCounted counts (TooLarge count source) = ⊤
 
 -- counts in which that of an open list was put at the place of its source
 abbrev pub counted_by : OpenedEntry → List ℕ → List ℕ
 counted_by (Opened count source version) counts = slice_set counts source count
-counted_by NotOpened counts = counts
-counted_by (TooLarge count) counts = counts
+counted_by (NotOpened source) counts = counts
+counted_by (TooLarge count source) counts = counts

@@ -4,6 +4,8 @@ pub mod Accepting
 pub mod Homes
 -- What asking sources for their sizes again makes of lists.
 pub mod Reopening
+-- How long a generation lasts.
+pub mod Lifetimes
 -- What a server leaves of the sources, and how it ends.
 pub mod Serving
 -- The lists that a server answers over.

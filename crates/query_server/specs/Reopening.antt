@@ -9,38 +9,38 @@ use Rattle.source_api.specs.declared.source.Trouble.{Trouble}
 use Rattle.fetcher.specs.declared.slot.Slot.{Slot}
 use Rattle.server_conn.specs.declared.opened.OpenedEntry.{OpenedEntry}
 use Rattle.server_conn.specs.declared.opened.OpenedEntry.TheVariants.{Opened, NotOpened, TooLarge}
-use Rattle.query_server.specs.Homes.{home_at, entry_at}
+use Rattle.query_server.specs.Homes.{home_at, home_of, entry_at}
 
 -- this became of a list whose source states so many objects at a version
 abbrev pub IsByItsSize : ℕ → ℕ → OpenedEntry → Type 0
 IsByItsSize size at_hand (Opened count source version) = (count ≡ size) × (version ≡ at_hand)
-IsByItsSize size at_hand NotOpened = ⊥
-IsByItsSize size at_hand (TooLarge count) = count ≡ size
+IsByItsSize size at_hand (NotOpened source) = ⊥
+IsByItsSize size at_hand (TooLarge count source) = count ≡ size
 
 -- what a source answered that was asked for its size, if this became of its list
 abbrev pub HasAnswer : Result ℕ Trouble → OpenedEntry → Type 0
 HasAnswer answer (Opened count source version) = answer ≡ Ok count
-HasAnswer answer NotOpened = (why : Trouble) × (answer ≡ Err why)
-HasAnswer answer (TooLarge count) = answer ≡ Ok count
+HasAnswer answer (NotOpened source) = (why : Trouble) × (answer ≡ Err why)
+HasAnswer answer (TooLarge count source) = answer ≡ Ok count
 
 -- a list isn't open only where its source failed or gave garbled data: that count rose, or stands at its last value; else nothing was counted
 abbrev pub HasCauseInCounts : Counts → Counts → OpenedEntry → Type 0
 HasCauseInCounts before now (Opened count source version) = now ≡ before
-HasCauseInCounts before now NotOpened = Rose before.faults now.faults ⊎ Rose before.garbles now.garbles
-HasCauseInCounts before now (TooLarge count) = now ≡ before
+HasCauseInCounts before now (NotOpened source) = Rose before.faults now.faults ⊎ Rose before.garbles now.garbles
+HasCauseInCounts before now (TooLarge count source) = now ≡ before
 
 -- an open list has the version that its source has at hand, and one whose size is known has as many objects as its source tells rows
 abbrev pub IsAsStated : Option (List Row) → ℕ → OpenedEntry → Type 0
 IsAsStated told at_hand (Opened count source version) = (version ≡ at_hand) × IfSome told (λ rows. count ≡ length rows)
-IsAsStated told at_hand NotOpened = ⊤
-IsAsStated told at_hand (TooLarge count) = IfSome told (λ rows. count ≡ length rows)
+IsAsStated told at_hand (NotOpened source) = ⊤
+IsAsStated told at_hand (TooLarge count source) = IfSome told (λ rows. count ≡ length rows)
 
 -- an open list has the version that its source, which stands in the slot of its number, has at hand
 abbrev pub IsAtHand : {S : Type 0} → (S → ℕ) → List (Slot S) → OpenedEntry → Type 0
 IsAtHand {S} at_hand slots (Opened count source version) =
     (d : Slot S) → source < length slots → version ≡ at_hand (slice_index_or slots source d).source
-IsAtHand at_hand slots NotOpened = ⊤
-IsAtHand at_hand slots (TooLarge count) = ⊤
+IsAtHand at_hand slots (NotOpened source) = ⊤
+IsAtHand at_hand slots (TooLarge count source) = ⊤
 
 module _ {S : Type 0} (list : S → Option (List Row)) (counts : S → Counts) (calls : S → Option (List Call)) where
   -- a source was asked for its size and for nothing else: it tells the list that it told, and gave neither a row nor a grade
@@ -79,5 +79,5 @@ module _ {S : Type 0} (list : S → Option (List Row)) (counts : S → Counts) (
       (d : Slot S) → Reopens (slice_index_or before source d).source (slice_index_or after source d).source now
 
   -- this became of all lists
-  pub record ReopensAll (homes : List (Option ℕ)) (entries now : List OpenedEntry) (before after : List (Slot S)) : Type 0 where
-    pub each : (place : ℕ) → ReopensAt before after (home_at homes place) (entry_at entries place) (entry_at now place)
+  pub record ReopensAll (entries now : List OpenedEntry) (before after : List (Slot S)) : Type 0 where
+    pub each : (place : ℕ) → ReopensAt before after (home_of (entry_at entries place)) (entry_at entries place) (entry_at now place)

@@ -1,5 +1,5 @@
 -- How a server ends, and what it leaves of the sources.
-use Rattle.std.specs.Prelude.{◌≡◌, ◌⊎◌, ◌<◌, ℕ, ⊤, List, Option, None, All, length, slice_index_or}
+use Rattle.std.specs.Prelude.{◌≡◌, ◌⊎◌, ◌<◌, ℕ, ⊤, List, Option, None, All, length, map, slice_index_or}
 use Rattle.ranked_list.specs.declared.row.Row.{Row}
 use Rattle.source_api.specs.declared.counts.Counts.{Counts}
 use Rattle.source_api.specs.Calls.{Call}
@@ -8,7 +8,7 @@ use Rattle.fetcher.specs.declared.slot.Slot.{Slot}
 use Rattle.tk_io.specs.Calls.{PortCall}
 use Rattle.server_conn.specs.Entries.{Openings}
 use Rattle.server_conn.specs.declared.opened.OpenedEntry.{OpenedEntry}
-use Rattle.query_server.specs.Homes.{AreAtHome}
+use Rattle.query_server.specs.Homes.{home_of}
 use Rattle.query_server.specs.Reopening.{ReopensAll}
 use Rattle.query_server.specs.Accepting.{TookAll, TookSome, GaveAll, GaveBeforeFault, AsksFor}
 use Rattle.query_server.specs.declared.accepting.Accepted.{Accepted}
@@ -27,21 +27,21 @@ pub record KeepsVersions {S : Type 0} (at_hand : S → ℕ) (before after : List
 
 module _ {S : Type 0} (list : S → Option (List Row)) (counts : S → Counts) (calls : S → Option (List Call)) (at_hand : S → ℕ) where
   -- between two moments the sources of lists were asked for their sizes, and this became of the lists, as each answered
-  pub record WereReopened (homes : List (Option ℕ)) (before after : List (Slot S)) (entries now : List OpenedEntry) : Type 0 where
+  pub record WereReopened (before after : List (Slot S)) (entries now : List OpenedEntry) : Type 0 where
     pub asked : List (Slot S)
     pub answered : List (Slot S)
     pub until : KeepsSources list counts before asked
-    pub became : ReopensAll list counts calls at_hand homes entries now asked answered
+    pub became : ReopensAll list counts calls at_hand entries now asked answered
     pub since : KeepsSources list counts answered after
 
-  -- what a server leaves: the sources, none of which is being fetched, and the same catalog, of whose lists each open one has the source that it had at
-  -- first. The lists are as they were at first, or as their sources answered when they were asked again
-  pub record Leaves (homes : List (Option ℕ)) (before after : List (Slot S)) (o now : Openings) : Type 0 where
+  -- what a server leaves: the sources, none of which is being fetched, and the same catalog, whose lists have the sources that they had. The lists
+  -- are as they were at first, or as their sources answered when they were asked last
+  pub record Leaves (before after : List (Slot S)) (o now : Openings) : Type 0 where
     pub kept : KeepsSources list counts before after
     pub empty : All (λ slot. slot.feeder ≡ None) after
     pub catalog : now.catalog ≡ o.catalog
-    pub home : AreAtHome homes now.entries
-    pub lists : (now.entries ≡ o.entries) ⊎ WereReopened homes before after o.entries now.entries
+    pub homes : map home_of now.entries ≡ map home_of o.entries
+    pub lists : (now.entries ≡ o.entries) ⊎ WereReopened before after o.entries now.entries
 
 -- how serving at most so many links of a port ends; lack of memory is free
 abbrev pub ServesLinks : ℕ → Option (List (List ℕ)) → Option (List (List ℕ)) → ℕ → ℕ → Served → Type 0

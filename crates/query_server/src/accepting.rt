@@ -6,6 +6,7 @@ ghost use Rattle.query_server.specs.Accepting.{Accepts, AcceptsNext, AsksFor, ca
 
 use super::queue::LinkQueue;
 use std::sync::Wait;
+use std::time::Clock;
 use tk_io::{Failed, Port};
 
 /// How accepting the links of a port ended.
@@ -32,7 +33,7 @@ enum Next {
 }
 
 /// Takes the next link and puts it into the queue.
-fn accept_next<P: Port>(rt: &impl Wait, port: &mut P, queue: &LinkQueue<P::L>) -> Next
+fn accept_next<R: Wait + Clock, P: Port>(rt: &R, port: &mut P, queue: &LinkQueue<P::L>) -> Next
     ensures next { AcceptsNext (P.links port.old) (P.links port.new) (P.faults port.old) (P.faults port.new) result }
     ensures closed { P.closed port.new ≡ P.closed port.old }
     ensures calls { P.calls port.new ≡ with_more (call_of result ∷ []) (P.calls port.old) }
@@ -51,8 +52,8 @@ fn accept_next<P: Port>(rt: &impl Wait, port: &mut P, queue: &LinkQueue<P::L>) -
 }
 
 /// Takes links until so many were taken, the port has ended or failed, or nobody takes them any more.
-fn accept_links<P: Port>(
-    rt: &impl Wait,
+fn accept_links<R: Wait + Clock, P: Port>(
+    rt: &R,
     port: &mut P,
     queue: &LinkQueue<P::L>,
     conns: u64,
@@ -78,8 +79,8 @@ fn accept_links<P: Port>(
 /// so many were taken or the port has ended or failed. The call may wait for ever.
 ///
 /// A link that is put into the queue is the business of who takes it: none is given back to the port.
-pub fn accept_all<P: Port>(
-    rt: &impl Wait,
+pub fn accept_all<R: Wait + Clock, P: Port>(
+    rt: &R,
     port: &mut P,
     queue: &LinkQueue<P::L>,
     conns: u64,

@@ -1,8 +1,8 @@
 //! How many objects a pool is to have of each source.
 
-ghost use Rattle.std.specs.Prelude.{◌≡◌, ◌≤◌, length, All, IfOk};
+ghost use Rattle.std.specs.Prelude.{◌≡◌, ◌≤◌, length, map, All, IfOk};
 ghost use Rattle.server_conn.specs.Entries.{IsSized};
-ghost use Rattle.query_server.specs.Homes.{HaveHomes, IsWithin, IsCounted, counted_by};
+ghost use Rattle.query_server.specs.Homes.{AreHomes, IsWithin, IsCounted, counted_by, home_of};
 
 use server_conn::OpenedEntry;
 use std::alloc::Global;
@@ -15,14 +15,14 @@ fn put_count(entry: OpenedEntry, counts: &mut [u32])
 {
     match entry {
         OpenedEntry::Opened { count, source, .. } => counts[source as usize] = count,
-        OpenedEntry::NotOpened => {}
+        OpenedEntry::NotOpened { .. } => {}
         OpenedEntry::TooLarge { .. } => {}
     }
 }
 
 /// Puts the count of each open list at the place of its source.
 fn put_counts(entries: &[OpenedEntry], counts: &mut [u32])
-    requires homes { HaveHomes (length counts.old) entries.now }
+    requires homes { AreHomes (length counts.old) (map home_of entries.now) }
     requires sized { All IsSized entries.now }
     requires small { All (λ count. count ≤ MAX_OBJECTS) counts.old }
     ensures size { length counts.new ≡ length counts.old }
@@ -40,7 +40,7 @@ pub(crate) fn counts_of(
     entries: &[OpenedEntry],
     sources: usize,
 ) -> Result<Vec<u32>, Memory>
-    requires homes { HaveHomes sources entries.now }
+    requires homes { AreHomes sources (map home_of entries.now) }
     requires sized { All IsSized entries.now }
     ensures size { IfOk result (λ counts. length counts.items ≡ sources) }
     ensures counted { IfOk result (λ counts. All (IsCounted counts.items) entries.now) }

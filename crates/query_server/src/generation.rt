@@ -1,14 +1,14 @@
 //! Generations of a server.
 
-ghost use Rattle.std.specs.Prelude.{◌≡◌, ◌<◌, ◌^◌, ℕ, List, None, All, OnErr, OnOk, false, length, map};
+ghost use Rattle.std.specs.Prelude.{◌≡◌, ◌<◌, ◌^◌, ℕ, List, None, All, IfOk, IfSome, OnErr, OnOk, false, length, map};
 ghost use Rattle.topk_base.specs.Ranges.{AreSettings};
 ghost use Rattle.batch_run.specs.Crews.{IsNewCrew};
-ghost use Rattle.query_server.specs.Homes.{AreHomes, AreAtHome, HaveHomes, IsCounted, home_of};
+ghost use Rattle.query_server.specs.Homes.{AreHomes, IsCounted, home_of};
 ghost use Rattle.query_server.specs.Reopening.{AsksSome, IsAtHand, ReopensAll};
-ghost use Rattle.query_server.specs.Serving.{KeepsSources, KeepsVersions, Leaves};
+ghost use Rattle.query_server.specs.Serving.{KeepsSources, KeepsVersions, Leaves, WereReopened};
 
 use super::counting::counts_of;
-use super::homes::homes_of;
+use super::lifetime::{MIN_PAUSE, lifetime_of, pause_after};
 use super::queue::LinkQueue;
 use super::reopening::entries_again;
 use super::sides::serve_sides;
@@ -19,6 +19,7 @@ use source_api::Source;
 use std::alloc::Global;
 use std::sync::Wait;
 use std::thread::Threads;
+use std::time::Clock;
 use tk_io::Link;
 use topk_base::{Memory, Settings};
 
@@ -65,7 +66,7 @@ fn serve_generation<W: Threads + Wait + Sync, S: Source, L: Link + Send + Drop>(
 ) -> Result<(), Memory>
     requires settings { AreSettings settings }
     requires few { length slots.old < 2 ^ 32 }
-    requires homes { HaveHomes (length slots.old) catalog.now.entries }
+    requires homes { AreHomes (length slots.old) (map home_of catalog.now.entries) }
     requires at_hand { All (IsAtHand S.at_hand slots.old) catalog.now.entries }
     requires empty { All (λ slot. slot.feeder ≡ None) slots.old }
     ensures kept { KeepsSources S.list S.counts slots.old slots.new }
@@ -83,37 +84,65 @@ fn serve_generation<W: Threads + Wait + Sync, S: Source, L: Link + Send + Drop>(
     Ok(())
 }
 
-/// Asks each source for its size again, and gives the catalog what became of its lists.
+/// Asks each source for its size again, and gives the catalog what became of its lists. It tells whether that is something else.
 fn reopen<S: Source>(
     alloc: Global,
-    homes: &[Option<u32>],
     catalog: &mut Opened,
     slots: &mut [Slot<S>],
-) -> Result<(), Memory>
-    requires homes { AreHomes (length slots.old) homes.now }
-    requires home { AreAtHome homes.now catalog.old.entries }
-    requires many { length homes.now ≡ length catalog.old.entries }
+) -> Result<bool, Memory>
+    requires homes { AreHomes (length slots.old) (map home_of catalog.old.entries) }
     requires empty { All (λ slot. slot.feeder ≡ None) slots.old }
-    ensures asks { AsksSome S.list S.counts S.calls homes.now slots.old slots.new }
+    ensures asks { AsksSome S.list S.counts S.calls (map home_of catalog.old.entries) slots.old slots.new }
     ensures stay { OnErr result (catalog.new.entries ≡ catalog.old.entries) }
-    ensures reopens { OnOk result (ReopensAll S.list S.counts S.calls S.at_hand homes.now catalog.old.entries catalog.new.entries slots.old slots.new) }
+    ensures reopens { OnOk result (ReopensAll S.list S.counts S.calls S.at_hand catalog.old.entries catalog.new.entries slots.old slots.new) }
     ensures empty { All (λ slot. slot.feeder ≡ None) slots.new }
     ensures catalog { catalog.new.catalog ≡ catalog.old.catalog }
-    ensures home { AreAtHome homes.now catalog.new.entries }
-    ensures many { length catalog.new.entries ≡ length catalog.old.entries }
+    ensures homes { map home_of catalog.new.entries ≡ map home_of catalog.old.entries }
 {
-    let Ok(entries) = entries_again(alloc, homes, catalog.entries(), slots) else {
+    let Ok(entries) = entries_again(alloc, catalog.entries(), slots) else {
         return Err(Memory);
     };
+    let changed = entries.as_slice() != catalog.entries();
     catalog.reopen(entries);
-    Ok(())
+    Ok(changed)
+}
+
+/// One generation. Where more links come then its sources are asked again, and it tells whether that made other lists of them. None where no
+/// more links come.
+fn serve_once<W: Threads + Wait + Sync, S: Source, L: Link + Send + Drop>(
+    rt: &W,
+    alloc: Global,
+    catalog: &mut Opened,
+    slots: &mut [Slot<S>],
+    queue: &LinkQueue<L>,
+    settings: Settings,
+) -> Result<Option<bool>, Memory>
+    requires settings { AreSettings settings }
+    requires few { length slots.old < 2 ^ 32 }
+    requires homes { AreHomes (length slots.old) (map home_of catalog.old.entries) }
+    requires at_hand { All (IsAtHand S.at_hand slots.old) catalog.old.entries }
+    requires empty { All (λ slot. slot.feeder ≡ None) slots.old }
+    ensures left { Leaves S.list S.counts S.calls S.at_hand slots.old slots.new catalog.old catalog.new }
+    ensures asked { IfOk result (λ more. IfSome more (λ changed.
+        WereReopened S.list S.counts S.calls S.at_hand slots.old slots.new catalog.old.entries catalog.new.entries)) }
+    ensures at_hand { OnOk result (All (IsAtHand S.at_hand slots.new) catalog.new.entries) }
+{
+    let Ok(()) = serve_generation(rt, alloc, catalog, slots, queue, settings) else {
+        return Err(Memory);
+    };
+    if !queue.has_more(rt) {
+        return Ok(None);
+    }
+    let Ok(changed) = reopen(alloc, catalog, slots) else {
+        return Err(Memory);
+    };
+    Ok(Some(changed))
 }
 
 /// Generations one after another, until no more links come.
-fn serve_generations<W: Threads + Wait + Sync, S: Source, L: Link + Send + Drop>(
+fn serve_generations<W: Threads + Wait + Clock + Sync, S: Source, L: Link + Send + Drop>(
     rt: &W,
     alloc: Global,
-    homes: &[Option<u32>],
     catalog: &mut Opened,
     slots: &mut [Slot<S>],
     queue: &LinkQueue<L>,
@@ -121,31 +150,28 @@ fn serve_generations<W: Threads + Wait + Sync, S: Source, L: Link + Send + Drop>
 ) -> Result<(), Memory>
     requires settings { AreSettings settings }
     requires few { length slots.old < 2 ^ 32 }
-    requires homes { AreHomes (length slots.old) homes.now }
-    requires home { AreAtHome homes.now catalog.old.entries }
-    requires many { length homes.now ≡ length catalog.old.entries }
+    requires homes { AreHomes (length slots.old) (map home_of catalog.old.entries) }
     requires at_hand { All (IsAtHand S.at_hand slots.old) catalog.old.entries }
     requires empty { All (λ slot. slot.feeder ≡ None) slots.old }
-    ensures left { Leaves S.list S.counts S.calls S.at_hand homes.now slots.old slots.new catalog.old catalog.new }
+    ensures left { Leaves S.list S.counts S.calls S.at_hand slots.old slots.new catalog.old catalog.new }
     ensures at_hand { OnOk result (All (IsAtHand S.at_hand slots.new) catalog.new.entries) }
 {
+    let mut pause = MIN_PAUSE;
     for _ in rt.forever() {
-        let Ok(()) = serve_generation(rt, alloc, catalog, slots, queue, settings) else {
+        queue.resume(rt, lifetime_of(catalog.entries(), pause));
+        let Ok(more) = serve_once(rt, alloc, catalog, slots, queue, settings) else {
             return Err(Memory);
         };
-        if !queue.has_more(rt) {
+        let Some(changed) = more else {
             return Ok(());
-        }
-        let Ok(()) = reopen(alloc, homes, catalog, slots) else {
-            return Err(Memory);
         };
-        queue.resume(rt);
+        pause = pause_after(changed, pause);
     }
     Ok(())
 }
 
 /// The side of the workers and the fetchers. It tells whether memory ran out: then nobody takes links any more.
-pub(crate) fn serve_side<W: Threads + Wait + Sync, S: Source, L: Link + Send + Drop>(
+pub(crate) fn serve_side<W: Threads + Wait + Clock + Sync, S: Source, L: Link + Send + Drop>(
     rt: &W,
     alloc: Global,
     catalog: &mut Opened,
@@ -158,15 +184,10 @@ pub(crate) fn serve_side<W: Threads + Wait + Sync, S: Source, L: Link + Send + D
     requires homes { AreHomes (length slots.old) (map home_of catalog.old.entries) }
     requires at_hand { All (IsAtHand S.at_hand slots.old) catalog.old.entries }
     requires empty { All (λ slot. slot.feeder ≡ None) slots.old }
-    ensures left { Leaves S.list S.counts S.calls S.at_hand (map home_of catalog.old.entries) slots.old slots.new catalog.old catalog.new }
+    ensures left { Leaves S.list S.counts S.calls S.at_hand slots.old slots.new catalog.old catalog.new }
     ensures at_hand { result ≡ false → All (IsAtHand S.at_hand slots.new) catalog.new.entries }
 {
-    let Ok(homes) = homes_of(alloc, catalog.entries()) else {
-        queue.leave(rt);
-        return true;
-    };
-    let served = serve_generations(rt, alloc, homes.as_slice(), catalog, slots, queue, settings);
-    drop(homes);
+    let served = serve_generations(rt, alloc, catalog, slots, queue, settings);
     if served.is_err() {
         queue.leave(rt);
         return true;

@@ -3,14 +3,14 @@
 //! A connection is one request and one reply (`server_conn`). Each worker serves through a pass of its own to one pool, while one fetcher a
 //! source brings what the queries wait for. The server works in generations: once a query was refused since its source moved to another
 //! version, no connection begins until those that were begun have ended, the pool is taken down, each source was asked for its size again, and
-//! a new pool is there.
+//! a new pool is there. So does a generation end that has lasted for some time, where a list isn't open or states versions, when a link comes.
 #![tactic(auto)]
 
 mod accepting;
 mod counting;
 mod fetching;
 mod generation;
-mod homes;
+mod lifetime;
 mod queue;
 mod reopening;
 mod server;
@@ -18,6 +18,7 @@ mod sides;
 mod waiting;
 
 pub use accepting::{Accepted, accept_all};
+pub use lifetime::{MAX_PAUSE, MIN_PAUSE};
 pub use queue::LinkQueue;
 pub use server::{Served, serve_all};
 pub use server_conn::{Opened, OpenedEntry};

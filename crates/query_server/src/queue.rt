@@ -3,6 +3,7 @@
 use super::waiting::Waiting;
 use std::alloc::Global;
 use std::sync::{Condvar, Mutex, Wait};
+use std::time::Clock;
 use topk_base::Memory;
 
 /// Links that were accepted and that no worker took yet. The side that has the port puts them in, and waits while the queue is full;
@@ -40,12 +41,17 @@ impl<L: Send + Drop> LinkQueue<L> {
         })
     }
 
-    /// Puts a link in, once there is room. False where nobody takes links any more: then it is dropped.
-    pub fn put(&self, rt: &impl Wait, link: L) -> bool {
+    /// Puts a link in, once there is room. False where nobody takes links any more: then it is dropped. Where the time since `resume` is over,
+    /// no link is taken from now on, as after `pause`.
+    pub fn put<R: Wait + Clock>(&self, rt: &R, link: L) -> bool {
         let mut guard = self
             .went
             .wait_while(rt, self.waiting.lock(rt), |waiting| waiting.is_full());
         let waiting = &mut *guard;
+        if waiting.is_due(rt) {
+            waiting.pause();
+            self.came.notify_all();
+        }
         let put = waiting.put(link);
         self.came.notify_one();
         put
@@ -74,15 +80,15 @@ impl<L: Send + Drop> LinkQueue<L> {
     pub fn pause(&self, rt: &impl Wait) {
         let mut guard = self.waiting.lock(rt);
         let waiting = &mut *guard;
-        waiting.pause(true);
+        waiting.pause();
         self.came.notify_all();
     }
 
-    /// Links are taken again.
-    pub fn resume(&self, rt: &impl Wait) {
+    /// Links are taken again, for so many seconds if that is said.
+    pub fn resume<R: Wait + Clock>(&self, rt: &R, seconds: Option<u64>) {
         let mut guard = self.waiting.lock(rt);
         let waiting = &mut *guard;
-        waiting.pause(false);
+        waiting.resume(rt, seconds);
         self.came.notify_all();
     }
 

@@ -16,6 +16,7 @@ use std::alloc::Global;
 use std::sync::Wait;
 use std::thread;
 use std::thread::Threads;
+use std::time::Clock;
 use tk_io::Port;
 use topk_base::Settings;
 
@@ -31,7 +32,12 @@ pub enum Served {
 }
 
 /// The side with the port: how the server ends by it. Where nobody takes links any more memory ran out.
-fn accept_side<P: Port>(rt: &impl Wait, port: &mut P, queue: &LinkQueue<P::L>, conns: u64) -> Served
+fn accept_side<R: Wait + Clock, P: Port>(
+    rt: &R,
+    port: &mut P,
+    queue: &LinkQueue<P::L>,
+    conns: u64,
+) -> Served
     ensures serves { ServesLinks conns (P.links port.old) (P.links port.new) (P.faults port.old) (P.faults port.new) result }
     ensures closed { P.closed port.new ≡ P.closed port.old }
     ensures calls { AsksForLinks conns (P.calls port.old) (P.calls port.new) result }
@@ -49,15 +55,16 @@ fn accept_side<P: Port>(rt: &impl Wait, port: &mut P, queue: &LinkQueue<P::L>, c
 /// drops a link when its connection has ended; one that fails ends its own connection alone. Every connection has ended when the call
 /// returns, unless memory ran out. The call may wait for ever.
 ///
-/// A source that moves to another version ends a generation: no connection begins until those that were begun have ended, and then each
-/// source of a list that was open at first is asked for its size, and for nothing else, once a further link has come, the catalog gets
-/// what became of the lists, and a new pool is made. So the answers of a generation are of one version of each list, the one that its
-/// source has at hand. A list isn't open then only where its source failed or was garbled when it was asked, or states too many objects; it is
-/// asked for again in the next generation. One that wasn't open at first stays so.
+/// A generation ends when a source moves to another version. It ends too when a link comes and it is as old as it gets: `MIN_PAUSE`
+/// seconds where a list isn't open, twice as many as before while nothing changes, up to `MAX_PAUSE`; and `MAX_PAUSE` where a list states
+/// versions. Then no connection begins until those that were begun have ended, and once a further link waits each source of a list, open
+/// or not, is asked for its size, and for nothing else, the catalog gets what became of the lists, and a new pool is made. So the answers of a
+/// generation are of one version of each list, the one that its source has at hand. A list isn't open then only where its source failed
+/// or was garbled when it was asked, or states too many objects; one without a source stays as it was.
 ///
 /// *Cost*: the queue, and for each generation a pool and a pass for each worker.
 #[tactic(auto, using(crate::proofs::TakingLaws::asked_some))]
-pub fn serve_all<W: Threads + Wait + Sync, S: Source, P: Port>(
+pub fn serve_all<W: Threads + Wait + Clock + Sync, S: Source, P: Port>(
     rt: &W,
     alloc: Global,
     catalog: &mut Opened,
@@ -74,7 +81,7 @@ pub fn serve_all<W: Threads + Wait + Sync, S: Source, P: Port>(
     ensures serves { ServesLinks conns (P.links port.old) (P.links port.new) (P.faults port.old) (P.faults port.new) result }
     ensures closed { P.closed port.new ≡ P.closed port.old }
     ensures calls { AsksForLinks conns (P.calls port.old) (P.calls port.new) result }
-    ensures left { Leaves S.list S.counts S.calls S.at_hand (map home_of catalog.old.entries) sources.old sources.new catalog.old catalog.new }
+    ensures left { Leaves S.list S.counts S.calls S.at_hand sources.old sources.new catalog.old catalog.new }
     ensures at_hand { result ≢ Served.Memory → All (IsAtHand S.at_hand sources.new) catalog.new.entries }
 {
     let Ok(queue) = LinkQueue::make(alloc, settings.workers) else {

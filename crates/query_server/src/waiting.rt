@@ -5,6 +5,7 @@ ghost use Rattle.std.specs.VecDeque.{deque_len, deque_capacity};
 
 use std::alloc::Global;
 use std::collections::VecDeque;
+use std::time::{Clock, Duration, Instant};
 use topk_base::Memory;
 
 /// Links that wait for a worker, the first one first, never more than there is room for; whether more may come; and whether
@@ -17,6 +18,8 @@ pub(crate) struct Waiting<L> {
     ended: bool,
     /// No link is taken for now.
     paused: bool,
+    /// Until when links may be taken, if not for ever.
+    until: Option<Instant>,
     /// Nobody takes links any more.
     left: bool,
     ghost fits: { (deque_len links ≤ room) × (room ≤ deque_capacity links) },
@@ -34,6 +37,7 @@ impl<L: Drop> Waiting<L> {
             room,
             ended: false,
             paused: false,
+            until: None,
             left: false,
         })
     }
@@ -85,12 +89,35 @@ impl<L: Drop> Waiting<L> {
         self.ended = true;
     }
 
-    /// Whether no link is taken for now.
-    pub(crate) fn pause(&mut self, paused: bool)
-        ensures paused { self.new.paused ≡ paused }
+    /// Whether the time is over in which links may be taken. Where the clock can't be read it never is.
+    pub(crate) fn is_due<C: Clock>(&self, clock: &C) -> bool {
+        let Some(until) = self.until else {
+            return false;
+        };
+        match Instant::now(clock) {
+            Ok(now) => now >= until,
+            Err(_) => false,
+        }
+    }
+
+    /// No link is taken for now.
+    pub(crate) fn pause(&mut self)
+        ensures paused { self.new.paused ≡ true }
         ensures links { self.new.links.items ≡ self.old.links.items }
     {
-        self.paused = paused;
+        self.paused = true;
+    }
+
+    /// Links are taken again, for so many seconds if that is said.
+    pub(crate) fn resume<C: Clock>(&mut self, clock: &C, seconds: Option<u64>)
+        ensures paused { self.new.paused ≡ false }
+        ensures links { self.new.links.items ≡ self.old.links.items }
+    {
+        self.paused = false;
+        self.until = match seconds {
+            Some(seconds) => moment_in(clock, seconds),
+            None => None,
+        };
     }
 
     /// Drops the links that wait. Nobody takes links any more.
@@ -107,5 +134,13 @@ impl<L: Drop> Waiting<L> {
         ensures { result ≡ not (deque_len self.now.links == 0) }
     {
         !self.links.is_empty()
+    }
+}
+
+/// The moment that comes in so many seconds. None where the clock can't be read.
+fn moment_in<C: Clock>(clock: &C, seconds: u64) -> Option<Instant> {
+    match Instant::now(clock) {
+        Ok(now) => now.checked_add(Duration::from_secs(seconds)),
+        Err(_) => None,
     }
 }

@@ -30,8 +30,8 @@ none_some e = cc
 
 -- what became of the source of an entry, by the entry
 pub opening_is : (entries : List OpenedEntry) (place : ℕ) → place < length entries
-    → opening_at (map opening_of entries) place ≡ opening_of (slice_index_or entries place NotOpened)
-opening_is entries place within = get_or-map opening_of entries place NotOpened Closed within
+    → opening_at (map opening_of entries) place ≡ opening_of (slice_index_or entries place (NotOpened None))
+opening_is entries place within = get_or-map opening_of entries place (NotOpened None) Closed within
 
 pub opening_past : (entries : List OpenedEntry) (place : ℕ) → length entries ≤ place → opening_at (map opening_of entries) place ≡ Closed
 opening_past entries place past =
@@ -54,8 +54,8 @@ module _ (holds : List Hold) (o : Openings) (are : AreEntriesOf o.catalog o.entr
   entry_there n (Opened count source version) from l small sized is said size =
       let same : count ≡ n = same_Some count n (ap (λ (k : ListInfo). k.size) said ∙ size) in
       subst (IsSourceIn holds n) (ap (λ (k : ListInfo). k.source) said) (subst (λ m. IsSourceIn holds m source) same is)
-  entry_there n NotOpened from l small sized is said size = absurd (none_some (ap (λ (k : ListInfo). k.size) said ∙ size))
-  entry_there n (TooLarge count) from l small sized is said size =
+  entry_there n (NotOpened none) from l small sized is said size = absurd (none_some (ap (λ (k : ListInfo). k.size) said ∙ size))
+  entry_there n (TooLarge count none) from l small sized is said size =
       let same : count ≡ n = same_Some count n (ap (λ (k : ListInfo). k.size) said ∙ size) in
       absurd (omega (arith, sized, same, small))
 
@@ -64,8 +64,8 @@ module _ (holds : List Hold) (o : Openings) (are : AreEntriesOf o.catalog o.entr
   placed_there n place l small said size = elim (cases_lt place (length o.entries)) [
     | inl within ↦
         let from = entry_at o.catalog place in
-        entry_there n (slice_index_or o.entries place NotOpened) from l small (All-get_or IsSized o.entries place NotOpened within are.sized)
-        (All-get_or (IsThere holds) o.entries place NotOpened within there) (ap (said_of from) (sym (opening_is o.entries place within)) ∙ said) size
+        entry_there n (slice_index_or o.entries place (NotOpened None)) from l small (All-get_or IsSized o.entries place (NotOpened None) within are.sized)
+        (All-get_or (IsThere holds) o.entries place (NotOpened None) within there) (ap (said_of from) (sym (opening_is o.entries place within)) ∙ said) size
     | inr past ↦
         let from = entry_at o.catalog place in
         absurd (none_some (ap (λ (k : ListInfo). k.size) (ap (said_of from) (sym (opening_past o.entries place past)) ∙ said) ∙ size))

@@ -13,8 +13,8 @@ use Rattle.server_conn.specs.Entries.{Openings, IsThere, MayAnswer}
 there_still : (before after : List Hold) → KnowsAll before after → (entry : OpenedEntry) → IsThere before entry → IsThere after entry
 there_still before after knows (Opened count source version) is =
     (subst (λ n. source < n) (sym knows.size) is.0, subst (λ name. name.1 ≡ count) (sym (knows.each source).name) is.1)
-there_still before after knows NotOpened is = tt
-there_still before after knows (TooLarge count) is = tt
+there_still before after knows (NotOpened source) is = tt
+there_still before after knows (TooLarge count source) is = tt
 
 pub may_still : (o : Openings) (pool : List TableId) (before after : List Hold) → IsPassOf pool after → WaitsForNothing after → KnowsAll before after
     → MayAnswer o pool before → MayAnswer o pool after

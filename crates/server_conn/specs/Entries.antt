@@ -23,8 +23,8 @@ pub record Openings : Type 0 where
 -- an open list has at most 200,000 objects, and one that is too large has more
 abbrev pub IsSized : OpenedEntry → Type 0
 IsSized (Opened count source version) = count ≤ MAX_OBJECTS
-IsSized NotOpened = ⊤
-IsSized (TooLarge count) = MAX_OBJECTS < count
+IsSized (NotOpened source) = ⊤
+IsSized (TooLarge count source) = MAX_OBJECTS < count
 
 -- what became of sources, one for each entry of a catalog
 pub record AreEntriesOf (catalog : List Entry) (entries : List OpenedEntry) : Type 0 where
@@ -34,8 +34,8 @@ pub record AreEntriesOf (catalog : List Entry) (entries : List OpenedEntry) : Ty
 -- what admission is told of it: a list that is too large states its size, and is never run over
 abbrev pub opening_of : OpenedEntry → Opening
 opening_of (Opened count source version) = Open count source version
-opening_of NotOpened = Closed
-opening_of (TooLarge count) = Open count 0 0
+opening_of (NotOpened source) = Closed
+opening_of (TooLarge count source) = Open count 0 0
 
 -- what is known of the lists by their names
 abbrev pub view_in : Openings → View
@@ -44,8 +44,8 @@ view_in o = view_over o.catalog (map opening_of o.entries) nothing_told
 -- the source of an open list is in the pool, with as many objects
 abbrev pub IsThere : List Hold → OpenedEntry → Type 0
 IsThere holds (Opened count source version) = IsSourceIn holds count source
-IsThere holds NotOpened = ⊤
-IsThere holds (TooLarge count) = ⊤
+IsThere holds (NotOpened source) = ⊤
+IsThere holds (TooLarge count source) = ⊤
 
 -- a query that is ready has its sources in the pool
 abbrev pub HasSources : List Hold → Admitted → Type 0

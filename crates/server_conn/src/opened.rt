@@ -14,7 +14,7 @@ use std::alloc::Global;
 use std::marker::Model;
 
 /// What became of the source of an entry.
-#[derive(Clone, Copy)]
+#[derive(Clone, Copy, PartialEq, Eq)]
 pub enum OpenedEntry {
     /// It is open, with so many objects, at most 200,000, at this version; `source` is its number in the pool.
     Opened {
@@ -22,11 +22,14 @@ pub enum OpenedEntry {
         source: u32,
         version: u64,
     },
-    /// It couldn't be opened.
-    NotOpened,
+    /// It isn't open. Its source has this number if it was taken.
+    NotOpened {
+        source: Option<u32>,
+    },
     /// It states so many objects, which are more than 200,000.
     TooLarge {
         count: u64,
+        source: Option<u32>,
     },
 }
 
@@ -109,8 +112,8 @@ fn opening_of(entry: OpenedEntry) -> Opening
             source,
             version,
         },
-        OpenedEntry::NotOpened => Opening::Closed,
-        OpenedEntry::TooLarge { count } => Opening::Open {
+        OpenedEntry::NotOpened { .. } => Opening::Closed,
+        OpenedEntry::TooLarge { count, .. } => Opening::Open {
             size: count,
             source: 0,
             version: 0,

@@ -8,6 +8,7 @@ use query_server::Served;
 use std::alloc::Global;
 use std::sync::Wait;
 use std::thread::Threads;
+use std::time::Clock;
 use test_mem_source::Kind;
 use test_mem_source::visits::Parts;
 use tk_io::{MemLink, MemPort, Share};
@@ -56,7 +57,7 @@ fn all_took(alloc: Global, shares: &[Share], visits: &[Visit]) -> Option<bool>
 
 /// Whether a server whose list A is of this kind ends so that serves at most so many of these visits, and each gets its reply. The calls of the
 /// port with these numbers fail.
-pub(crate) fn ends<R: Threads + Wait + Sync>(
+pub(crate) fn ends<R: Threads + Wait + Clock + Sync>(
     rt: &R,
     alloc: Global,
     first: Kind,

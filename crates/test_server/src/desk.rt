@@ -11,7 +11,7 @@ use server_conn::{Opened, OpenedEntry};
 use std::alloc::Global;
 use test_query_support::Pair;
 
-/// Four lists: A and B are open, C isn't, and D is too large.
+/// Four lists: A and B are open, C isn't yet, and D is too large.
 const CATALOG: &[u8] = b"name,place,random\nA,a,yes\nB,b,yes\nC,c,yes\nD,d,yes\n";
 
 /// What became of their sources: those of A and B have three objects, A's at version 7.
@@ -31,8 +31,11 @@ fn four_entries(alloc: Global) -> Option<Vec<OpenedEntry>>
         source: 1,
         version: 0,
     });
-    entries.push_reserved(OpenedEntry::NotOpened);
-    entries.push_reserved(OpenedEntry::TooLarge { count: 300_000 });
+    entries.push_reserved(OpenedEntry::NotOpened { source: Some(2) });
+    entries.push_reserved(OpenedEntry::TooLarge {
+        count: 300_000,
+        source: None,
+    });
     Some(entries)
 }
 

@@ -7,6 +7,7 @@ use query_server::Served;
 use std::alloc::Global;
 use std::sync::Wait;
 use std::thread::Threads;
+use std::time::Clock;
 use test_mem_source::visits::{CLOSE, Parts};
 use test_mem_source::{Kind, Move};
 
@@ -46,7 +47,7 @@ const COURSE: &[u8] =
     b"stop depth 2 sorted 4 random 3 cost 7\ns A 1 900\ns B 2 700\nr B 1 500\nr A 2 800\ns A 2 800\ns B 3 600\nr A 3 100\nend\n";
 
 /// Whether requests one after another get these replies of one worker, where A states version 8 from this call on, and 7 before.
-fn goes_on<R: Threads + Wait + Sync>(
+fn goes_on<R: Threads + Wait + Clock + Sync>(
     rt: &R,
     alloc: Global,
     call: u64,
@@ -83,5 +84,37 @@ static ASKED_AGAIN: &[Visit] = &[
 #[test]
 fn an_answer_is_remembered_for_its_generation_alone(rt: HostRuntime) {
     let is_so = goes_on(&rt, rt.alloc(), 6, ASKED_AGAIN);
+    holds_with_memory(&rt, is_so);
+}
+
+/// The best object of the list that isn't open at first.
+const ASKS_C: Parts = &[b"GET /top?q=top+1+by+C+using+ta HTTP/1.1\r\nHost: h\r\n\r\n"];
+
+const CLOSED: Parts = &[
+    OK,
+    b"Content-Length: 22\r\n",
+    CLOSE,
+    b"refused 1 NotOpened C\n",
+];
+
+/// One row of C is enough.
+const BEST_OF_C: Parts = &[
+    OK,
+    b"Content-Length: 117\r\n",
+    CLOSE,
+    b"certificate 1\nquery top 1 by C using ta\ncount 3\nanswer 3 950 950\nstop depth 1 sorted 1 random 0 cost 1\ns C 3 950\nend\n",
+];
+
+/// C is asked again when A moved.
+static COMES_BACK: &[Visit] = &[
+    (ASKS_C, &[], CLOSED, true),
+    (ASKS, &[], MOVED, true),
+    (ASKS_C, &[], BEST_OF_C, true),
+    (ASKS, &[], BEST_NOW, true),
+];
+
+#[test]
+fn a_list_that_was_not_open_at_first_comes_back(rt: HostRuntime) {
+    let is_so = goes_on(&rt, rt.alloc(), 3, COMES_BACK);
     holds_with_memory(&rt, is_so);
 }

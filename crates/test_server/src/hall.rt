@@ -1,4 +1,4 @@
-//! A server over the lists A and B in memory, and links whose replies are kept.
+//! A server over the lists A, B and C in memory, and links whose replies are kept.
 
 ghost use Rattle.std.specs.Prelude.{◌≡◌, ◌≤◌, ◌<◌, None, All, length, map, IfSome};
 ghost use Rattle.tk_io.specs.LinksInMemory.{IsUnused};
@@ -13,6 +13,7 @@ use source_api::Source;
 use std::alloc::Global;
 use std::sync::{OnceLock, Wait};
 use std::thread::Threads;
+use std::time::Clock;
 use test_mem_source::visits::{Parts, joined};
 use test_mem_source::{Held, Kind, MemSource, source_of};
 use tk_io::{MemLink, Port, Share};
@@ -30,6 +31,13 @@ pub(crate) const fn list_a(kind: Kind) -> Held {
 const B: Held = Held {
     place: "b",
     rows: &[(2, 700), (3, 600), (1, 500)],
+    kind: Kind::Honest,
+};
+
+/// The list that isn't open at first.
+const C: Held = Held {
+    place: "c",
+    rows: &[(3, 950), (1, 400), (2, 300)],
     kind: Kind::Honest,
 };
 
@@ -82,28 +90,29 @@ fn slot_of(alloc: Global, held: &Held, version: u64) -> Option<Slot<MemSource>>
     Some(Slot::make(source))
 }
 
-/// The slots of both sources, which have the versions of their lists at hand. None without memory.
-fn two_slots(alloc: Global, first: &Held) -> Option<Vec<Slot<MemSource>>>
-    ensures size { IfSome result (λ slots. length slots.items ≡ 2) }
+/// The slots of the sources, of which the first two have the versions of their lists at hand. None without memory.
+fn three_slots(alloc: Global, first: &Held) -> Option<Vec<Slot<MemSource>>>
+    ensures size { IfSome result (λ slots. length slots.items ≡ 3) }
     ensures empty { IfSome result (λ slots. All (λ slot. slot.feeder ≡ None) slots.items) }
     ensures at_hand { IfSome result (λ slots. All (IsAtHand version_of slots.items) four_entries) }
 {
     let first = slot_of(alloc, first, 7)?;
     let second = slot_of(alloc, &B, 0)?;
-    let Ok(slots) = vec![in alloc; first, second] else {
+    let third = Slot::make(source_of(alloc, &C)?);
+    let Ok(slots) = vec![in alloc; first, second, third] else {
         return None;
     };
     Some(slots)
 }
 
-/// The lists that are open have a source of two each.
-fn two_have_homes()
-    ensures { AreHomes 2 (map home_of four_entries) }
+/// Three lists have a source of three each.
+fn three_have_homes()
+    ensures { AreHomes 3 (map home_of four_entries) }
 {}
 
 /// How a server over the lists ends that has so many workers, reads a row a page and none ahead, and serves at most so many links. None without
 /// memory.
-pub(crate) fn serve<R: Threads + Wait + Sync, P: Port>(
+pub(crate) fn serve<R: Threads + Wait + Clock + Sync, P: Port>(
     rt: &R,
     alloc: Global,
     first: Kind,
@@ -114,8 +123,8 @@ pub(crate) fn serve<R: Threads + Wait + Sync, P: Port>(
     requires { (1 ≤ workers) × (workers ≤ 32) }
 {
     let mut lists = open_lists(alloc)?;
-    let mut slots = two_slots(alloc, &list_a(first))?;
-    two_have_homes();
+    let mut slots = three_slots(alloc, &list_a(first))?;
+    three_have_homes();
     let settings = Settings {
         workers,
         page: 1,

@@ -8,6 +8,7 @@ use query_server::Served;
 use std::alloc::Global;
 use std::sync::Wait;
 use std::thread::Threads;
+use std::time::Clock;
 use test_mem_source::Kind;
 use tk_io::Share;
 
@@ -22,7 +23,11 @@ fn link_until(alloc: Global, share: &Share, until: Option<&Share>) -> Option<Wai
 }
 
 /// Whether both links get their whole reply, where the first waits for the second or the other way round.
-fn both_end<R: Threads + Wait + Sync>(rt: &R, alloc: Global, first_waits: bool) -> Option<bool> {
+fn both_end<R: Threads + Wait + Clock + Sync>(
+    rt: &R,
+    alloc: Global,
+    first_waits: bool,
+) -> Option<bool> {
     let first = new_share(alloc)?;
     let second = new_share(alloc)?;
     let one = link_until(

@@ -14,6 +14,7 @@ use source_api::Shelf;
 use std::alloc::Global;
 use std::sync::Wait;
 use std::thread::Threads;
+use std::time::Clock;
 use tk_io::{Intake, Port, Sink};
 
 /// What is written where the words are no command.
@@ -43,7 +44,7 @@ const WORDS_REFUSED: &[u8] = b"refused words\n";
 /// has one more thread that reads ahead; where the system makes no thread, this one does all. These three and `node` may wait
 /// for ever; the other commands start no thread.
 #[tactic(auto, using(crate::proofs::Settings::run_settings, crate::proofs::Settings::bulk_settings, crate::proofs::Settings::serve_settings))]
-pub fn top<W: Threads + Wait + Sync, H: Shelf, R: Intake, K: Sink, P: Port>(
+pub fn top<W: Threads + Wait + Clock + Sync, H: Shelf, R: Intake, K: Sink, P: Port>(
     rt: &W,
     alloc: Global,
     words: &Words,

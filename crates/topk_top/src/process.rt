@@ -12,13 +12,14 @@ use std::alloc::Global;
 use std::env::Env;
 use std::sync::Wait;
 use std::thread::Threads;
+use std::time::Clock;
 use tk_io::{Intake, Port, Sink};
 
 /// Calls `top` with the words of a process, which `env` has, and gives the exit status; `rt` runs its
 /// threads. A word that isn't UTF-8 makes the words no command, as no words are none.
 ///
 /// What the words are is the process's own: the clause says that the call ends as some words do.
-pub fn run_process<W: Threads + Wait + Sync, E: Env, H: Shelf, R: Intake, K: Sink, P: Port>(
+pub fn run_process<W: Threads + Wait + Clock + Sync, E: Env, H: Shelf, R: Intake, K: Sink, P: Port>(
     rt: &W,
     env: &E,
     alloc: Global,

@@ -1,4 +1,4 @@
-use Rattle.batch_run.proofs.HandLaws.{fetches_of}
+use Rattle.batch_run.proofs.HandleLaws.{fetches_of}
 use Rattle.query_server.proofs.fetching.fetch_slot.Goals as goal
 
 pub returns : goal.returns

@@ -13,7 +13,7 @@ returns-in-Ok-clause-reopens g c =
 pub returns-in-Err-Fail-Failed-clause-reopens : goal.returns-in-Err-Fail-Failed-clause-reopens
 returns-in-Err-Fail-Failed-clause-reopens g c =
     let e = c.in-Err-Fail-Failed.ensures in
-    reopens_not g.S.Source.list g.S.Source.counts g.S.Source.calls g.S.Source.at_hand c.args.source.now c.size.new.self c.in-Err-Fail-Failed.field-0
+    reopens_not g.S.Source.list g.S.Source.counts g.S.Source.calls g.S.Source.at_hand c.args.source.now c.size.new.self c.in-Err-Fail-Failed.field-0 _
     e.refused e.list e.later e.given
     (inl (subst (TroubleHasCause (g.S.Source.counts c.args.source.now) (g.S.Source.counts c.size.new.self))
     (c.in-Err-Fail-Failed.field-0-is ∙ ap Fail c.in-Err-Fail-Failed.field-0-0-is) e.cause))
@@ -21,7 +21,7 @@ returns-in-Err-Fail-Failed-clause-reopens g c =
 pub returns-in-Err-Fail-Garbled-clause-reopens : goal.returns-in-Err-Fail-Garbled-clause-reopens
 returns-in-Err-Fail-Garbled-clause-reopens g c =
     let e = c.in-Err-Fail-Garbled.ensures in
-    reopens_not g.S.Source.list g.S.Source.counts g.S.Source.calls g.S.Source.at_hand c.args.source.now c.size.new.self c.in-Err-Fail-Garbled.field-0
+    reopens_not g.S.Source.list g.S.Source.counts g.S.Source.calls g.S.Source.at_hand c.args.source.now c.size.new.self c.in-Err-Fail-Garbled.field-0 _
     e.refused e.list e.later e.given
     (inr (subst (TroubleHasCause (g.S.Source.counts c.args.source.now) (g.S.Source.counts c.size.new.self))
     (c.in-Err-Fail-Garbled.field-0-is ∙ ap Fail c.in-Err-Fail-Garbled.field-0-0-is) e.cause))
