@@ -105,10 +105,13 @@ def restart(program: str) -> str | None:
 
 
 def few_threads(program: str) -> str | None:
-    """A server that gets 1 to 12 threads answers each line, a list after another, with one worker and with four."""
+    """A server that gets no further thread once it has one for its workers' side, or one of the next six, answers each
+    line with one worker and with four: its workers fetch for themselves. No clause says that a thread gets on, so a
+    worker that only sleeps until a fetcher told it would be proved as well: this test refuses it."""
     with tempfile.TemporaryDirectory() as place:
         before = built(place, "sharing")
-        for threads, workers in itertools.product(range(1, 13), ("1", "4")):
+        # Threads are counted over all: opening the four lists makes four, and the fifth is that of the workers' side.
+        for threads, workers in itertools.product(range(6, 13), ("1", "4")):
             env = dict(os.environ, LD_PRELOAD=before, SHARING_THREADS=str(threads))
             command = [program, "serve", "catalog.csv", "--conns", str(MANY), "--workers", workers]
             with begun(command, DATA, env=env) as (port, _):

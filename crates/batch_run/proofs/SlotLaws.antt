@@ -1,5 +1,5 @@
 -- What fetchers did of the slots of a batch.
-use Rattle.std.proofs.Common.{◌≡◌, ◌<◌, ◌++◌, ℕ, true, Option, Some, None, is_some, List, All, length, take, drop, slice_index, slice_index_or, sym, ap, subst, ◌∙◌, arith}
+use Rattle.std.proofs.Common.{◌≡◌, ◌<◌, ℕ, true, Option, Some, None, is_some, List, All, length, slice_index, slice_index_or, sym, ap, subst, ◌∙◌, arith}
 use Rattle.std.proofs.lemmas.List.{length-map}
 use Rattle.std.proofs.lemmas.Option.{same_Some}
 use Rattle.ranked_list.specs.declared.row.Row.{Row}
@@ -16,9 +16,10 @@ use Rattle.fetcher.specs.Metering.{IsMetered, nothing}
 use Rattle.fetcher.specs.Moving.{MovesOnly}
 use Rattle.batch_result.specs.Using.{IsReplaced}
 use Rattle.topk_base.specs.declared.settings.Settings.{Settings}
-use Rattle.batch_run.specs.Slots.{SlotState, state_of, states_of, slot_at, HasFeeder, Fetches, AllFetch, AreLent, AreTakenBack}
+use Rattle.workers.specs.Sides.{HasFeeder}
+use Rattle.batch_run.specs.Slots.{SlotState, state_of, states_of, slot_at, Fetches, AllFetch, AreLent, AreTakenBack}
 use Rattle.batch_run.specs.Crews.{HasFetched}
-use Rattle.batch_result.proofs.Places.{map_at, stands_at, lent_back}
+use Rattle.batch_result.proofs.Places.{map_at, stands_at}
 
 -- what one fetcher did, and that its feeder is idle
 record FetchedOne (pool : List TableId) (settings : Settings) (source count : ℕ) (before after : SlotState) (feed : Feed) : Type 0 where
@@ -62,13 +63,6 @@ fetched_one pool settings source count b l g k feed end lent f back was first =
       idle = subst (IsIdleOf pool) his f.idle;
       number = ap (λ (x : Feed). x.source) (sym his) ∙ (f.source ∙ ap (λ (x : Feed). x.source) mine);
     }
-
--- what a vector holds after its items were lent as a slice
-abbrev pub came_back : {A : Type 0} → ℕ → List A → List A → List A
-came_back len before after = take len (after ++ drop (length after) before)
-
-back_as : {A : Type 0} (len : ℕ) (before after : List A) → len ≡ length before → length after ≡ length before → came_back len before after ≡ after
-back_as len before after long same = ap (λ (n : ℕ). take n (after ++ drop (length after) before)) long ∙ lent_back before after same
 
 module _ {S : Type 0} (list : S → Option (List Row)) (counts : S → Counts) (at_hand : S → ℕ) where
   -- the state of a slot by its place
@@ -149,25 +143,6 @@ module _ {S : Type 0} (list : S → Option (List Row)) (counts : S → Counts) (
         is = ap (λ (s : SlotState). s.feeder) (given.each i d there);
         idle = record { of = record { source = omega (arith, number, within); own = free.own ∙ ap (lock_at pool) (sym number) }; rests = free.rests };
       }
-
-  -- slots that were lent as a slice, and came back with feeders, or without them
-  pub lent_slots : (len : ℕ) (feeds : List Feed) (before lent after : List (Slot S)) → len ≡ length before → lent ≡ before → AreLent list counts at_hand feeds lent after
-      → AreLent list counts at_hand feeds before (came_back len before after)
-  lent_slots len feeds before lent after long same given =
-      let here = subst (λ (xs : List (Slot S)). AreLent list counts at_hand feeds xs after) same given in
-      subst (AreLent list counts at_hand feeds before) (sym (back_as len before after long here.size)) here
-
-  pub taken_slots : (len : ℕ) (feeds : List Feed) (before lent after : List (Slot S)) → len ≡ length before → lent ≡ before
-      → AreTakenBack list counts at_hand lent feeds after → AreTakenBack list counts at_hand before feeds (came_back len before after)
-  taken_slots len feeds before lent after long same given =
-      let here = subst (λ (xs : List (Slot S)). AreTakenBack list counts at_hand xs feeds after) same given in
-      subst (AreTakenBack list counts at_hand before feeds) (sym (back_as len before after long here.size)) here
-
-  pub empty_slots : (len : ℕ) (feeds : List Feed) (before lent after : List (Slot S)) → len ≡ length before → lent ≡ before
-      → AreTakenBack list counts at_hand lent feeds after → All (λ (slot : Slot S). slot.feeder ≡ None) after
-      → All (λ (slot : Slot S). slot.feeder ≡ None) (came_back len before after)
-  empty_slots len feeds before lent after long same given none =
-      subst (All (λ (slot : Slot S). slot.feeder ≡ None)) (sym (back_as len before after long (given.size ∙ ap length same))) none
 
   -- nothing is fetched of them yet
   pub all_fresh : (feeds : List Feed) (before lent : List (Slot S)) → AreLent list counts at_hand feeds before lent

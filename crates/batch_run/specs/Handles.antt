@@ -9,9 +9,8 @@ use Rattle.fetcher.specs.declared.slot.Slot.{Slot}
 use Rattle.fetcher.specs.declared.serving.Began.{Began}
 use Rattle.batch_run.specs.Working.{Worked}
 
--- all workers have worked, at their places, and their passes to the slot table stay
+-- all workers have worked, at their places
 pub record AllHandles {S : Type 0} (pool : List TableId) (tickets : TableId) (readies : List Ready) (before after : List (WorkerHandle Worker (Slot S) (Began S))) : Type 0 where
   pub size : length after ≡ length before
   pub worked : (i : ℕ) (d : WorkerHandle Worker (Slot S) (Began S)) → i < length before
       → Worked pool tickets readies (slice_index_or before i d).worker (slice_index_or after i d).worker
-  pub passes : (i : ℕ) (d : WorkerHandle Worker (Slot S) (Began S)) → i < length before → (slice_index_or after i d).pass ≡ (slice_index_or before i d).pass

@@ -41,12 +41,6 @@ abbrev pub slot_at : List SlotState → ℕ → SlotState
 slot_at slots source =
     slice_index_or slots source (record { told = None; version = 0; counts = no_counts; feeder = None; fetched = record { rows = 0; grades = 0 } })
 
--- there is a feeder of this pool, which has no turn
-pub record HasFeeder (pool : List TableId) (feeder : Option Feed) : Type 0 where
-  pub feed : Feed
-  pub is : feeder ≡ Some feed
-  pub idle : IsIdleOf pool feed
-
 -- a fetcher took turns by the feeder of a slot
 pub record Fetches (pool : List TableId) (settings : Settings) (before after : SlotState) : Type 0 where
   pub feed : Feed

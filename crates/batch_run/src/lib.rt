@@ -7,7 +7,6 @@
 #![tactic(auto)]
 
 mod finish;
-mod handles;
 mod hire;
 mod joining;
 mod lending;
@@ -16,10 +15,8 @@ mod sides;
 mod work;
 
 pub use batch_result::{Batch, Settings, Use};
-pub use handles::WorkerHandles;
 pub use hire::Crew;
 pub use lending::{lend, take_back};
 pub use query_run::{Ended, Memory};
 pub use run::run_all;
-pub use sides::run_sides;
 pub use work::Worker;

@@ -56,7 +56,7 @@ pub fn run_all<W: Threads + Wait + Sync, S: Source>(
     ensures right { IfOk result (λ batch. AllZip IsRight queries.now batch.endings) }
 {
     let mut crew = Crew::make(alloc, counts, queries.len(), settings.workers)?;
-    lend(&mut crew.feeders, sources.as_mut_slice());
+    lend(&mut crew.feeders, sources);
     run_sides(
         rt,
         alloc,
@@ -67,6 +67,6 @@ pub fn run_all<W: Threads + Wait + Sync, S: Source>(
         queries,
         settings,
     );
-    take_back(sources.as_mut_slice(), &mut crew.feeders);
+    take_back(sources, &mut crew.feeders);
     finish(crew, sources)
 }

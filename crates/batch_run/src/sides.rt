@@ -1,116 +1,67 @@
-//! The two sides of a run: the fetchers, and the workers.
+//! The sides of a batch: its workers beside the fetchers.
 
-ghost use Rattle.std.specs.Prelude.{◌≡◌, ◌≤◌, ◌<◌, ◌^◌, All, length, vec_len};
+ghost use Rattle.std.specs.Prelude.{◌≡◌, ◌≤◌, ◌<◌, ◌^◌, All, length};
 ghost use Rattle.topk_base.specs.Ranges.{AreSettings};
 ghost use Rattle.fetcher.specs.Metering.{nothing};
 ghost use Rattle.keyed_lock.specs.Hold.{share_of};
 ghost use Rattle.fetcher.specs.SlotTables.{IsSlotTable};
+ghost use Rattle.workers.specs.Sides.{HasFeeder, AreFetchers, AreHandles, KeepPasses};
 ghost use Rattle.batch_run.specs.Working.{IsAtWork, AllWorked};
-ghost use Rattle.batch_run.specs.Slots.{HasFeeder, AllFetch};
+ghost use Rattle.batch_run.specs.Slots.{AllFetch};
 ghost use Rattle.batch_run.specs.Handles.{AllHandles};
 
-use super::handles::{WorkerHandles, make_room};
 use super::work::{Worker, work};
 use batch_result::Settings;
-use fetcher::{Slot, SlotTable, serve_loop};
-use keyed_lock::{Pass, WorkerHandle};
+use fetcher::{Slot, SlotTable};
+use keyed_lock::WorkerHandle;
 use query_core::Ready;
 use source_api::Source;
 use source_pool::Pool;
 use std::alloc::Global;
 use std::sync::Wait;
-use std::thread;
 use std::thread::Threads;
 use tickets::Tickets;
+use workers::{WorkerHandles, close_sides, open_sides, run_beside};
 
-/// One fetcher a source, each in a thread of its own. They end once the sign is set.
-fn fetch_all<W: Threads + Wait + Sync, S: Source>(
-    rt: &W,
-    alloc: Global,
-    pool: &Pool,
-    table: &SlotTable<S>,
-    fetchers: &mut [Pass<Slot<S>>],
-)
-    requires table { IsSlotTable table.now pool.now }
-    requires shares { All (λ own. own ≡ share_of table.now.lock 1) fetchers.old }
-    requires many { length fetchers.old ≡ length pool.now }
-    ensures shares { All (λ own. own ≡ share_of table.now.lock 1) fetchers.new }
-    ensures size { length fetchers.new ≡ length fetchers.old }
-{
-    let threads = fetchers.len().max(1);
-    thread::for_each_mut(
-        rt,
-        fetchers,
-        threads,
-        &|place, own: &mut Pass<Slot<S>>|
-            requires { IsSlotTable table.now pool.now × (place < length pool.now) × (own.now ≡ share_of table.now.lock 1) }
-        { serve_loop(rt, alloc, pool, table, own, place) },
-    );
-}
-
-/// The workers, each in a thread of its own. Once all have worked the sign is set.
+/// All workers work, beside the fetchers.
 fn work_all<W: Threads + Wait + Sync, S: Source>(
     rt: &W,
     alloc: Global,
     pool: &Pool,
     table: &SlotTable<S>,
     tickets: &Tickets,
-    handles: &mut [WorkerHandle<Worker, Slot<S>>],
+    handles: &mut WorkerHandles<Worker, S>,
     queries: &[Ready],
 )
     requires table { IsSlotTable table.now pool.now }
-    requires workers { All (λ handle. IsAtWork pool.now tickets.now queries.now handle.worker) handles.old }
-    requires shares { All (λ handle. handle.pass ≡ share_of table.now.lock 1) handles.old }
-    ensures { AllHandles pool.now tickets.now queries.now handles.old handles.new }
+    requires handles { AreHandles table.now.lock (length pool.now) handles.old }
+    requires workers { All (λ handle. IsAtWork pool.now tickets.now queries.now handle.worker) handles.old.workers.items }
+    ensures worked { AllHandles pool.now tickets.now queries.now handles.old.workers.items handles.new.workers.items }
+    ensures keep { KeepPasses handles.old.workers.items handles.new.workers.items }
+    ensures fetchers { AreFetchers table.now.lock (length pool.now) handles.new.fetchers.items }
+    ensures first { handles.new.first ≡ handles.old.first }
 {
-    let threads = handles.len().max(1);
-    thread::for_each_mut(
+    let WorkerHandles {
+        workers,
+        fetchers,
+        first: _,
+    } = handles;
+    run_beside(
         rt,
-        handles,
-        threads,
+        alloc,
+        pool,
+        table,
+        fetchers,
+        workers,
         &|_, handle: &mut WorkerHandle<Worker, Slot<S>>|
             requires { IsSlotTable table.now pool.now × IsAtWork pool.now tickets.now queries.now handle.now.worker × (handle.now.pass ≡ share_of table.now.lock 1) }
         { work(rt, alloc, pool, table, tickets, handle, queries) },
     );
-    table.stop.set(pool);
-    table.wake_all();
 }
 
-/// Both sides at the same time, over the slot table. The fetchers end after the workers.
-fn run_over<W: Threads + Wait + Sync, S: Source>(
-    rt: &W,
-    alloc: Global,
-    pool: &Pool,
-    table: &SlotTable<S>,
-    tickets: &Tickets,
-    handles: &mut WorkerHandles<S>,
-    queries: &[Ready],
-)
-    requires table { IsSlotTable table.now pool.now }
-    requires workers { All (λ handle. IsAtWork pool.now tickets.now queries.now handle.worker) handles.old.workers.items }
-    requires shares { All (λ handle. handle.pass ≡ share_of table.now.lock 1) handles.old.workers.items }
-    requires fetchers { All (λ own. own ≡ share_of table.now.lock 1) handles.old.fetchers.items }
-    requires many { vec_len handles.old.fetchers ≡ length pool.now }
-    ensures worked { AllHandles pool.now tickets.now queries.now handles.old.workers.items handles.new.workers.items }
-    ensures fetchers { All (λ own. own ≡ share_of table.now.lock 1) handles.new.fetchers.items }
-    ensures many { vec_len handles.new.fetchers ≡ vec_len handles.old.fetchers }
-{
-    let WorkerHandles { workers, fetchers } = handles;
-    thread::join_mut(
-        rt,
-        &mut ||
-            requires { IsSlotTable table.now pool.now × All (λ own. own ≡ share_of table.now.lock 1) fetchers.now.items × (vec_len fetchers.now ≡ length pool.now) }
-        { fetch_all(rt, alloc, pool, table, fetchers) },
-        &mut ||
-            requires { IsSlotTable table.now pool.now × All (λ handle. IsAtWork pool.now tickets.now queries.now handle.worker) workers.now.items
-                × All (λ handle. handle.pass ≡ share_of table.now.lock 1) workers.now.items }
-        { work_all(rt, alloc, pool, table, tickets, workers, queries) },
-    );
-}
-
-/// The slot table is opened, and both sides run over it. What a worker needs of a source, and no other thread fetches, it fetches
-/// itself; the fetchers read ahead. Where memory runs out no query runs.
-pub fn run_sides<W: Threads + Wait + Sync, S: Source>(
+/// The slot table is opened, and both sides run over it: the workers run the queries, the fetchers read ahead. Where memory runs out no query
+/// runs.
+pub(crate) fn run_sides<W: Threads + Wait + Sync, S: Source>(
     rt: &W,
     alloc: Global,
     pool: &Pool,
@@ -129,19 +80,9 @@ pub fn run_sides<W: Threads + Wait + Sync, S: Source>(
     ensures fetched { AllFetch S.list S.counts S.at_hand pool.now settings slots.old.items slots.new.items }
     ensures worked { AllWorked pool.now tickets.now queries.now workers.old.items workers.new.items }
 {
-    let Ok(mut handles) = make_room::<S>(alloc, workers.len(), slots.len()) else {
+    let Some((table, mut handles)) = open_sides(alloc, pool, workers, slots, settings) else {
         return;
     };
-    let Some((table, mut pass)) = SlotTable::open(alloc, pool, slots, settings.page, settings.ahead)
-    else {
-        return;
-    };
-    let sources = table.bells.len();
-    let lock = &table.lock;
-    lock.hand_out(&mut pass, workers, &mut handles.workers);
-    lock.split_all(&mut pass, &mut handles.fetchers, sources);
-    run_over(rt, alloc, pool, &table, tickets, &mut handles, queries);
-    lock.hand_in(&mut pass, &mut handles.workers, workers);
-    lock.join_all(&mut pass, &mut handles.fetchers);
-    table.close(pass, slots);
+    work_all(rt, alloc, pool, &table, tickets, &mut handles, queries);
+    close_sides(table, handles, workers, slots);
 }

@@ -1,20 +1,20 @@
 //! What a worker does.
 
-ghost use Rattle.std.specs.Prelude.{◌≡◌, ◌<◌, length};
+ghost use Rattle.std.specs.Prelude.{◌≡◌};
 ghost use Rattle.keyed_lock.specs.Hold.{share_of};
 ghost use Rattle.fetcher.specs.SlotTables.{IsSlotTable, MayServe};
-ghost use Rattle.query_run.specs.Serving.{ServesAll};
 ghost use Rattle.batch_run.specs.Working.{IsAtWork, Worked};
 
-use fetcher::{Slot, SlotTable, serve_or_wait};
+use fetcher::{Slot, SlotTable};
 use keyed_lock::{Pass, WorkerHandle};
 use query_core::Ready;
-use query_run::{Ended, run_query_by};
+use query_run::Ended;
 use source_api::Source;
 use source_pool::{Pool, PoolPass};
 use std::alloc::Global;
 use std::sync::Wait;
 use tickets::{Done, TicketPass, Tickets};
+use workers::run_and_fetch;
 
 /// A worker, with a pass of the pool and one of the tickets.
 pub struct Worker {
@@ -49,23 +49,19 @@ impl Worker {
 
 /// Draws the next query, runs it, and keeps how it ended with its place. Room for its ending is taken first. Whether there was a query, and
 /// memory for it.
-fn run_next<P, F: Fn(u32, u64, &mut P), G: Fn(u32) -> bool, H: Fn(u32)>(
-    rt: &impl Wait,
+fn run_next<W: Wait, S: Source>(
+    rt: &W,
     alloc: Global,
     pool: &Pool,
+    table: &SlotTable<S>,
+    own: &mut Pass<Slot<S>>,
     tickets: &Tickets,
     worker: &mut Worker,
     queries: &[Ready],
-    serve: &F,
-    by: &mut P,
-    far: &G,
-    wake: &H,
 ) -> bool
+    requires serves { MayServe table.now pool.now own.old }
     requires work { IsAtWork pool.now tickets.now queries.now worker.old }
-    requires serves { ServesAll F.Fn serve.now (length pool.now) by.old }
-    requires far { G.IsAlwaysCallable far.now }
-    requires wake { H.IsAlwaysCallable wake.now }
-    ensures served { by.new ≡ by.old }
+    ensures served { own.new ≡ own.old }
     ensures worked { Worked pool.now tickets.now queries.now worker.old worker.new }
 {
     if worker.ended.reserve(1).is_err() {
@@ -77,7 +73,7 @@ fn run_next<P, F: Fn(u32, u64, &mut P), G: Fn(u32) -> bool, H: Fn(u32)>(
     let place = number as usize;
     let ready = &queries[place];
     let pass = &mut worker.pass;
-    match run_query_by(rt, alloc, pool, pass, ready, serve, by, far, wake) {
+    match run_and_fetch(rt, alloc, pool, table, own, pass, ready) {
         Ok(answer) => {
             worker.ended.push_reserved(Done { place, answer });
             true
@@ -102,17 +98,9 @@ pub(crate) fn work<W: Wait, S: Source>(
     ensures worked { Worked pool.now tickets.now queries.now handle.old.worker handle.new.worker }
     ensures pass { handle.new.pass ≡ handle.old.pass }
 {
-    let serve = |source: u32, _told: u64, pass: &mut Pass<Slot<S>>|
-        requires { MayServe table.now pool.now pass.now × (source < length pool.now) }
-        ensures { pass.exit.now ≡ pass.entry.now }
-    { serve_or_wait(rt, alloc, pool, table, pass, source as usize) };
-    let far = |source: u32| table.is_far(source as usize);
-    let wake = |source: u32| table.wake_fetcher(source as usize);
-    let WorkerHandle { worker, pass } = handle;
+    let WorkerHandle { worker, pass: own } = handle;
     for _ in 0..queries.len() {
-        let more = run_next(
-            rt, alloc, pool, tickets, worker, queries, &serve, pass, &far, &wake,
-        );
+        let more = run_next(rt, alloc, pool, table, own, tickets, worker, queries);
         if !more {
             return;
         }

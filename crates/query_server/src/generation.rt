@@ -23,35 +23,37 @@ use std::time::Clock;
 use tk_io::Link;
 use topk_base::{Memory, Settings};
 
-/// A crew serves links until there are none to take. The feeders stand in the slots meanwhile.
+/// A crew serves links until there are none to take, or takes none where memory runs out. The feeders stand in the slots meanwhile.
 fn serve_crew<W: Threads + Wait + Sync, S: Source, L: Link + Send + Drop>(
     rt: &W,
     alloc: Global,
     catalog: &Opened,
     crew: &mut Crew,
-    slots: &mut [Slot<S>],
+    slots: &mut Vec<Slot<S>>,
     queue: &LinkQueue<L>,
     settings: Settings,
-)
+) -> Result<(), Memory>
     requires settings { AreSettings settings }
-    requires new { (counts : List ℕ) × IsNewCrew counts 0 settings.workers crew.old × (length counts ≡ length slots.old)
+    requires few { length slots.old.items < 2 ^ 32 }
+    requires new { (counts : List ℕ) × IsNewCrew counts 0 settings.workers crew.old × (length counts ≡ length slots.old.items)
         × All (IsCounted counts) catalog.now.entries }
-    ensures kept { KeepsSources S.list S.counts slots.old slots.new }
-    ensures versions { KeepsVersions S.at_hand slots.old slots.new }
-    ensures empty { All (λ slot. slot.feeder ≡ None) slots.new }
+    ensures kept { KeepsSources S.list S.counts slots.old.items slots.new.items }
+    ensures versions { KeepsVersions S.at_hand slots.old.items slots.new.items }
+    ensures empty { All (λ slot. slot.feeder ≡ None) slots.new.items }
 {
     lend(&mut crew.feeders, slots);
-    serve_sides(
+    let served = serve_sides(
         rt,
         alloc,
         catalog,
         &crew.pool,
-        crew.workers.as_mut_slice(),
+        &mut crew.workers,
         slots,
         queue,
         settings,
     );
     take_back(slots, &mut crew.feeders);
+    served
 }
 
 /// One generation: a pool is opened over the sources of the lists that are open, links are served until there are none to take, and the
@@ -60,18 +62,18 @@ fn serve_generation<W: Threads + Wait + Sync, S: Source, L: Link + Send + Drop>(
     rt: &W,
     alloc: Global,
     catalog: &Opened,
-    slots: &mut [Slot<S>],
+    slots: &mut Vec<Slot<S>>,
     queue: &LinkQueue<L>,
     settings: Settings,
 ) -> Result<(), Memory>
     requires settings { AreSettings settings }
-    requires few { length slots.old < 2 ^ 32 }
-    requires homes { AreHomes (length slots.old) (map home_of catalog.now.entries) }
-    requires at_hand { All (IsAtHand S.at_hand slots.old) catalog.now.entries }
-    requires empty { All (λ slot. slot.feeder ≡ None) slots.old }
-    ensures kept { KeepsSources S.list S.counts slots.old slots.new }
-    ensures versions { KeepsVersions S.at_hand slots.old slots.new }
-    ensures empty { All (λ slot. slot.feeder ≡ None) slots.new }
+    requires few { length slots.old.items < 2 ^ 32 }
+    requires homes { AreHomes (length slots.old.items) (map home_of catalog.now.entries) }
+    requires at_hand { All (IsAtHand S.at_hand slots.old.items) catalog.now.entries }
+    requires empty { All (λ slot. slot.feeder ≡ None) slots.old.items }
+    ensures kept { KeepsSources S.list S.counts slots.old.items slots.new.items }
+    ensures versions { KeepsVersions S.at_hand slots.old.items slots.new.items }
+    ensures empty { All (λ slot. slot.feeder ≡ None) slots.new.items }
 {
     let Ok(counts) = counts_of(alloc, catalog.entries(), slots.len()) else {
         return Err(Memory);
@@ -79,23 +81,23 @@ fn serve_generation<W: Threads + Wait + Sync, S: Source, L: Link + Send + Drop>(
     let Ok(mut crew) = Crew::make(alloc, counts.as_slice(), 0, settings.workers) else {
         return Err(Memory);
     };
-    serve_crew(rt, alloc, catalog, &mut crew, slots, queue, settings);
+    let served = serve_crew(rt, alloc, catalog, &mut crew, slots, queue, settings);
     crew.let_go();
-    Ok(())
+    served
 }
 
 /// Asks each source for its size again, and gives the catalog what became of its lists. It tells whether that is something else.
 fn reopen<S: Source>(
     alloc: Global,
     catalog: &mut Opened,
-    slots: &mut [Slot<S>],
+    slots: &mut Vec<Slot<S>>,
 ) -> Result<bool, Memory>
-    requires homes { AreHomes (length slots.old) (map home_of catalog.old.entries) }
-    requires empty { All (λ slot. slot.feeder ≡ None) slots.old }
-    ensures asks { AsksSome S.list S.counts S.calls (map home_of catalog.old.entries) slots.old slots.new }
+    requires homes { AreHomes (length slots.old.items) (map home_of catalog.old.entries) }
+    requires empty { All (λ slot. slot.feeder ≡ None) slots.old.items }
+    ensures asks { AsksSome S.list S.counts S.calls (map home_of catalog.old.entries) slots.old.items slots.new.items }
     ensures stay { OnErr result (catalog.new.entries ≡ catalog.old.entries) }
-    ensures reopens { OnOk result (ReopensAll S.list S.counts S.calls S.at_hand catalog.old.entries catalog.new.entries slots.old slots.new) }
-    ensures empty { All (λ slot. slot.feeder ≡ None) slots.new }
+    ensures reopens { OnOk result (ReopensAll S.list S.counts S.calls S.at_hand catalog.old.entries catalog.new.entries slots.old.items slots.new.items) }
+    ensures empty { All (λ slot. slot.feeder ≡ None) slots.new.items }
     ensures catalog { catalog.new.catalog ≡ catalog.old.catalog }
     ensures homes { map home_of catalog.new.entries ≡ map home_of catalog.old.entries }
 {
@@ -113,19 +115,19 @@ fn serve_once<W: Threads + Wait + Sync, S: Source, L: Link + Send + Drop>(
     rt: &W,
     alloc: Global,
     catalog: &mut Opened,
-    slots: &mut [Slot<S>],
+    slots: &mut Vec<Slot<S>>,
     queue: &LinkQueue<L>,
     settings: Settings,
 ) -> Result<Option<bool>, Memory>
     requires settings { AreSettings settings }
-    requires few { length slots.old < 2 ^ 32 }
-    requires homes { AreHomes (length slots.old) (map home_of catalog.old.entries) }
-    requires at_hand { All (IsAtHand S.at_hand slots.old) catalog.old.entries }
-    requires empty { All (λ slot. slot.feeder ≡ None) slots.old }
-    ensures left { Leaves S.list S.counts S.calls S.at_hand slots.old slots.new catalog.old catalog.new }
+    requires few { length slots.old.items < 2 ^ 32 }
+    requires homes { AreHomes (length slots.old.items) (map home_of catalog.old.entries) }
+    requires at_hand { All (IsAtHand S.at_hand slots.old.items) catalog.old.entries }
+    requires empty { All (λ slot. slot.feeder ≡ None) slots.old.items }
+    ensures left { Leaves S.list S.counts S.calls S.at_hand slots.old.items slots.new.items catalog.old catalog.new }
     ensures asked { IfOk result (λ more. IfSome more (λ changed.
-        WereReopened S.list S.counts S.calls S.at_hand slots.old slots.new catalog.old.entries catalog.new.entries)) }
-    ensures at_hand { OnOk result (All (IsAtHand S.at_hand slots.new) catalog.new.entries) }
+        WereReopened S.list S.counts S.calls S.at_hand slots.old.items slots.new.items catalog.old.entries catalog.new.entries)) }
+    ensures at_hand { OnOk result (All (IsAtHand S.at_hand slots.new.items) catalog.new.entries) }
 {
     let Ok(()) = serve_generation(rt, alloc, catalog, slots, queue, settings) else {
         return Err(Memory);
@@ -144,17 +146,17 @@ fn serve_generations<W: Threads + Wait + Clock + Sync, S: Source, L: Link + Send
     rt: &W,
     alloc: Global,
     catalog: &mut Opened,
-    slots: &mut [Slot<S>],
+    slots: &mut Vec<Slot<S>>,
     queue: &LinkQueue<L>,
     settings: Settings,
 ) -> Result<(), Memory>
     requires settings { AreSettings settings }
-    requires few { length slots.old < 2 ^ 32 }
-    requires homes { AreHomes (length slots.old) (map home_of catalog.old.entries) }
-    requires at_hand { All (IsAtHand S.at_hand slots.old) catalog.old.entries }
-    requires empty { All (λ slot. slot.feeder ≡ None) slots.old }
-    ensures left { Leaves S.list S.counts S.calls S.at_hand slots.old slots.new catalog.old catalog.new }
-    ensures at_hand { OnOk result (All (IsAtHand S.at_hand slots.new) catalog.new.entries) }
+    requires few { length slots.old.items < 2 ^ 32 }
+    requires homes { AreHomes (length slots.old.items) (map home_of catalog.old.entries) }
+    requires at_hand { All (IsAtHand S.at_hand slots.old.items) catalog.old.entries }
+    requires empty { All (λ slot. slot.feeder ≡ None) slots.old.items }
+    ensures left { Leaves S.list S.counts S.calls S.at_hand slots.old.items slots.new.items catalog.old catalog.new }
+    ensures at_hand { OnOk result (All (IsAtHand S.at_hand slots.new.items) catalog.new.entries) }
 {
     let mut pause = MIN_PAUSE;
     for _ in rt.forever() {
@@ -175,17 +177,17 @@ pub(crate) fn serve_side<W: Threads + Wait + Clock + Sync, S: Source, L: Link + 
     rt: &W,
     alloc: Global,
     catalog: &mut Opened,
-    slots: &mut [Slot<S>],
+    slots: &mut Vec<Slot<S>>,
     queue: &LinkQueue<L>,
     settings: Settings,
 ) -> bool
     requires settings { AreSettings settings }
-    requires few { length slots.old < 2 ^ 32 }
-    requires homes { AreHomes (length slots.old) (map home_of catalog.old.entries) }
-    requires at_hand { All (IsAtHand S.at_hand slots.old) catalog.old.entries }
-    requires empty { All (λ slot. slot.feeder ≡ None) slots.old }
-    ensures left { Leaves S.list S.counts S.calls S.at_hand slots.old slots.new catalog.old catalog.new }
-    ensures at_hand { result ≡ false → All (IsAtHand S.at_hand slots.new) catalog.new.entries }
+    requires few { length slots.old.items < 2 ^ 32 }
+    requires homes { AreHomes (length slots.old.items) (map home_of catalog.old.entries) }
+    requires at_hand { All (IsAtHand S.at_hand slots.old.items) catalog.old.entries }
+    requires empty { All (λ slot. slot.feeder ≡ None) slots.old.items }
+    ensures left { Leaves S.list S.counts S.calls S.at_hand slots.old.items slots.new.items catalog.old catalog.new }
+    ensures at_hand { result ≡ false → All (IsAtHand S.at_hand slots.new.items) catalog.new.entries }
 {
     let served = serve_generations(rt, alloc, catalog, slots, queue, settings);
     if served.is_err() {

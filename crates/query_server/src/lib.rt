@@ -1,14 +1,13 @@
 //! A query server at a port: links are accepted on one side, which puts them into a queue, and workers serve them, a connection each.
 //!
-//! A connection is one request and one reply (`server_conn`). Each worker serves through a pass of its own to one pool, while one fetcher a
-//! source brings what the queries wait for. The server works in generations: once a query was refused since its source moved to another
+//! A connection is one request and one reply (`server_conn`). Each worker serves through a pass of its own to one pool, and fetches what its
+//! queries need, while one fetcher a source reads ahead. The server works in generations: once a query was refused since its source moved to another
 //! version, no connection begins until those that were begun have ended, the pool is taken down, each source was asked for its size again, and
 //! a new pool is there. So does a generation end that has lasted for some time, where a list isn't open or states versions, when a link comes.
 #![tactic(auto)]
 
 mod accepting;
 mod counting;
-mod fetching;
 mod generation;
 mod lifetime;
 mod queue;

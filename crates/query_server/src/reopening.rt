@@ -64,13 +64,13 @@ fn ask_again<S: Source>(alloc: Global, source: &mut S, number: u32) -> Result<Op
 fn entry_again<S: Source>(
     alloc: Global,
     entry: OpenedEntry,
-    slots: &mut [Slot<S>],
+    slots: &mut Vec<Slot<S>>,
 ) -> Result<OpenedEntry, Memory>
-    requires within { (source : ℕ) → home_of entry ≡ Some source → source < length slots.old }
+    requires within { (source : ℕ) → home_of entry ≡ Some source → source < length slots.old.items }
     requires sized { IsSized entry }
-    ensures asks { AsksOne S.list S.counts S.calls (home_of entry) slots.old slots.new }
-    ensures empty { All (λ slot. slot.feeder ≡ None) slots.old → All (λ slot. slot.feeder ≡ None) slots.new }
-    ensures reopens { IfOk result (ReopensAt S.list S.counts S.calls S.at_hand slots.old slots.new (home_of entry) entry) }
+    ensures asks { AsksOne S.list S.counts S.calls (home_of entry) slots.old.items slots.new.items }
+    ensures empty { All (λ slot. slot.feeder ≡ None) slots.old.items → All (λ slot. slot.feeder ≡ None) slots.new.items }
+    ensures reopens { IfOk result (ReopensAt S.list S.counts S.calls S.at_hand slots.old.items slots.new.items (home_of entry) entry) }
     ensures sized { IfOk result IsSized }
     ensures home { IfOk result (λ now. home_of now ≡ home_of entry) }
 {
@@ -84,13 +84,13 @@ fn entry_again<S: Source>(
 pub(crate) fn entries_again<S: Source>(
     alloc: Global,
     entries: &[OpenedEntry],
-    slots: &mut [Slot<S>],
+    slots: &mut Vec<Slot<S>>,
 ) -> Result<Vec<OpenedEntry>, Memory>
-    requires homes { AreHomes (length slots.old) (map home_of entries.now) }
+    requires homes { AreHomes (length slots.old.items) (map home_of entries.now) }
     requires sized { All IsSized entries.now }
-    ensures asks { AsksSome S.list S.counts S.calls (map home_of entries.now) slots.old slots.new }
-    ensures empty { All (λ slot. slot.feeder ≡ None) slots.old → All (λ slot. slot.feeder ≡ None) slots.new }
-    ensures reopens { IfOk result (λ now. ReopensAll S.list S.counts S.calls S.at_hand entries.now now.items slots.old slots.new) }
+    ensures asks { AsksSome S.list S.counts S.calls (map home_of entries.now) slots.old.items slots.new.items }
+    ensures empty { All (λ slot. slot.feeder ≡ None) slots.old.items → All (λ slot. slot.feeder ≡ None) slots.new.items }
+    ensures reopens { IfOk result (λ now. ReopensAll S.list S.counts S.calls S.at_hand entries.now now.items slots.old.items slots.new.items) }
     ensures sized { IfOk result (λ now. All IsSized now.items) }
     ensures homes { IfOk result (λ now. map home_of now.items ≡ map home_of entries.now) }
 {

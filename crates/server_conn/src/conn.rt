@@ -1,6 +1,7 @@
 //! One connection of a query server.
 
 ghost use Rattle.std.specs.Prelude.{◌≡◌, [], false};
+ghost use Rattle.fetcher.specs.SlotTables.{MayServe};
 ghost use Rattle.wire.specs.Sparing.{HoldsRequest, ReadsSparingly};
 ghost use Rattle.server_conn.specs.Entries.{view_in, MayAnswer};
 ghost use Rattle.query_run.specs.Advancing.{KnowsAll};
@@ -11,7 +12,10 @@ use super::answers::Answers;
 use super::asked::line_asked;
 use super::line::tell_line;
 use super::opened::Opened;
+use fetcher::{Slot, SlotTable};
 use http::StatusCode;
+use keyed_lock::Pass;
+use source_api::Source;
 use source_pool::{Pool, PoolPass};
 use std::alloc::Global;
 use std::sync::Wait;
@@ -35,23 +39,28 @@ pub struct Turn {
 /// the reply is begun; and else 200.
 ///
 /// With 200 the body is the text of what becomes of the bytes of `q` as the first query line of an input, a certificate or a refusal: the
-/// line is admitted over the catalog, and its query runs over the pool. Where the line was answered before through this pass and its answer
+/// line is admitted over the catalog, and its query runs over the pool; what it needs of a source and no other thread fetches this thread fetches
+/// itself, by turns over the slot table through its own pass of that. Where the line was answered before through this pass and its answer
 /// is remembered, the body is that answer, and no source is looked at. Every other reply says its reason, but that one to the method HEAD
 /// has no body. All are plain text.
 ///
 /// *Cost*: the text of the reply is made in memory before it is written, since its length stands before it. What is remembered is
 /// compared with the line, and written as it stands.
-pub fn serve_conn<L: Link>(
-    rt: &impl Wait,
+pub fn serve_conn<W: Wait, S: Source, L: Link>(
+    rt: &W,
     alloc: Global,
     catalog: &Opened,
     pool: &Pool,
+    table: &SlotTable<S>,
+    own: &mut Pass<Slot<S>>,
     pass: &mut PoolPass,
     answers: &mut Answers,
     link: &mut L,
 ) -> Turn
+    requires serves { MayServe table.now pool.now own.old }
     requires fit { MayAnswer catalog.now pool.now pass.old }
     requires remembers { Remembers (view_in catalog.now) pass.old answers.old }
+    ensures served { own.new ≡ own.old }
     ensures fit { MayAnswer catalog.now pool.now pass.new }
     ensures knows { KnowsAll pass.old pass.new }
     ensures remembers { Remembers (view_in catalog.now) pass.new answers.new }
@@ -70,7 +79,9 @@ pub fn serve_conn<L: Link>(
 {
     match read_request(alloc, link) {
         Ok(head) => {
-            let turn = answer_head(rt, alloc, catalog, pool, pass, answers, link, &head);
+            let turn = answer_head(
+                rt, alloc, catalog, pool, table, own, pass, answers, link, &head,
+            );
             drop(head);
             turn
         }
@@ -82,18 +93,22 @@ pub fn serve_conn<L: Link>(
 }
 
 /// Replies to a request with this head.
-fn answer_head<L: Link>(
-    rt: &impl Wait,
+fn answer_head<W: Wait, S: Source, L: Link>(
+    rt: &W,
     alloc: Global,
     catalog: &Opened,
     pool: &Pool,
+    table: &SlotTable<S>,
+    own: &mut Pass<Slot<S>>,
     pass: &mut PoolPass,
     answers: &mut Answers,
     link: &mut L,
     head: &Head,
 ) -> Turn
+    requires serves { MayServe table.now pool.now own.old }
     requires fit { MayAnswer catalog.now pool.now pass.old }
     requires remembers { Remembers (view_in catalog.now) pass.old answers.old }
+    ensures served { own.new ≡ own.old }
     ensures fit { MayAnswer catalog.now pool.now pass.new }
     ensures knows { KnowsAll pass.old pass.new }
     ensures remembers { Remembers (view_in catalog.now) pass.new answers.new }
@@ -107,7 +122,7 @@ fn answer_head<L: Link>(
         Ok(line) => {
             let bytes = line.as_str().as_bytes();
             let turn = answer_line(
-                rt, alloc, catalog, pool, pass, answers, link, bytes, is_head,
+                rt, alloc, catalog, pool, table, own, pass, answers, link, bytes, is_head,
             );
             drop(line);
             turn
@@ -117,19 +132,23 @@ fn answer_head<L: Link>(
 }
 
 /// Replies to a request for a query line: by the answer that is remembered of it, or by what is told of it now.
-fn answer_line<L: Link>(
-    rt: &impl Wait,
+fn answer_line<W: Wait, S: Source, L: Link>(
+    rt: &W,
     alloc: Global,
     catalog: &Opened,
     pool: &Pool,
+    table: &SlotTable<S>,
+    own: &mut Pass<Slot<S>>,
     pass: &mut PoolPass,
     answers: &mut Answers,
     link: &mut L,
     line: &[u8],
     is_head: bool,
 ) -> Turn
+    requires serves { MayServe table.now pool.now own.old }
     requires fit { MayAnswer catalog.now pool.now pass.old }
     requires remembers { Remembers (view_in catalog.now) pass.old answers.old }
+    ensures served { own.new ≡ own.old }
     ensures fit { MayAnswer catalog.now pool.now pass.new }
     ensures knows { KnowsAll pass.old pass.new }
     ensures remembers { Remembers (view_in catalog.now) pass.new answers.new }
@@ -141,7 +160,7 @@ fn answer_line<L: Link>(
     if let Some(text) = answers.find(line) {
         return unmoved(send(link, StatusCode::OK, Kind::Text, Some(text)));
     }
-    match tell_line(rt, alloc, catalog, pool, pass, line) {
+    match tell_line(rt, alloc, catalog, pool, table, own, pass, line) {
         Ok(told) => {
             let end = send(link, StatusCode::OK, Kind::Text, Some(told.text.as_slice()));
             let moved = told.moved;

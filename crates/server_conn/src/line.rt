@@ -3,6 +3,7 @@
 ghost use Rattle.std.specs.Prelude.{◌≡◌, IfOk};
 ghost use Rattle.std.specs.Result.{result_map_both};
 ghost use Rattle.source_pool.specs.Passes.{IsPassOf};
+ghost use Rattle.fetcher.specs.SlotTables.{MayServe};
 ghost use Rattle.query_core.specs.Ready.{IsReady};
 ghost use Rattle.query_run.specs.Advancing.{WaitsForNothing, HasSourcesIn, KnowsAll};
 ghost use Rattle.line_outcome.specs.LineOutcomes.{CanBeWritten};
@@ -13,14 +14,17 @@ ghost use Rattle.server_conn.specs.Connections.{Tells};
 use super::opened::Opened;
 use super::text::line_text;
 use cert_text::{Outcome, Refusal};
+use fetcher::{Slot, SlotTable};
+use keyed_lock::Pass;
 use line_outcome::{line_ended, line_refused};
 use machine_base::Answer;
 use query_admission::{Admitted, LineOutcome, Memory};
 use query_core::Ready;
-use query_run::run_query;
+use source_api::Source;
 use source_pool::{Pool, PoolPass};
 use std::alloc::Global;
 use std::sync::Wait;
+use workers::run_and_fetch;
 
 /// What is told of a query line: its outcome in text, whether that is an answer, and whether it is the refusal of a query whose source moved.
 #[derive(Drop)]
@@ -31,20 +35,24 @@ pub(crate) struct ToldLine {
 }
 
 /// Tells what becomes of a query line, or runs out of memory.
-pub(crate) fn tell_line(
-    rt: &impl Wait,
+pub(crate) fn tell_line<W: Wait, S: Source>(
+    rt: &W,
     alloc: Global,
     catalog: &Opened,
     pool: &Pool,
+    table: &SlotTable<S>,
+    own: &mut Pass<Slot<S>>,
     pass: &mut PoolPass,
     line: &[u8],
 ) -> Result<ToldLine, wire::Refusal>
+    requires serves { MayServe table.now pool.now own.old }
     requires fit { MayAnswer catalog.now pool.now pass.old }
+    ensures served { own.new ≡ own.old }
     ensures fit { MayAnswer catalog.now pool.now pass.new }
     ensures knows { KnowsAll pass.old pass.new }
     ensures tells { Tells (view_in catalog.now) line.now pass.old pass.new (result_map_both shown (λ why. why) result) }
 {
-    match answer_line(rt, alloc, catalog, pool, pass, line) {
+    match answer_line(rt, alloc, catalog, pool, table, own, pass, line) {
         Ok(outcome) => {
             let text = line_text(alloc, &outcome);
             let answered = is_answer(&outcome.outcome);
@@ -115,47 +123,56 @@ fn is_move(refusal: Refusal) -> bool
     }
 }
 
-/// What becomes of a query line, the first of its input: it is refused before it runs, or its query runs over the pool, and may wait.
-fn answer_line(
-    rt: &impl Wait,
+/// What becomes of a query line, the first of its input: it is refused before it runs, or its query runs over the pool, fetches what it needs, and may
+/// wait.
+fn answer_line<W: Wait, S: Source>(
+    rt: &W,
     alloc: Global,
     catalog: &Opened,
     pool: &Pool,
+    table: &SlotTable<S>,
+    own: &mut Pass<Slot<S>>,
     pass: &mut PoolPass,
     line: &[u8],
 ) -> Result<LineOutcome, Memory>
+    requires serves { MayServe table.now pool.now own.old }
     requires fit { MayAnswer catalog.now pool.now pass.old }
+    ensures served { own.new ≡ own.old }
     ensures fit { MayAnswer catalog.now pool.now pass.new }
     ensures knows { KnowsAll pass.old pass.new }
     ensures becomes { IfOk result (BecomesHere (view_in catalog.now) 1 line.now pass.old pass.new) }
     ensures writable { IfOk result CanBeWritten }
 {
     match catalog.admit(alloc, 1, line) {
-        Ok(Admitted::Ready(ready)) => run_ready(rt, alloc, pool, pass, ready),
+        Ok(Admitted::Ready(ready)) => run_ready(rt, alloc, pool, table, own, pass, ready),
         Ok(Admitted::Refused { refusal, query }) => Ok(line_refused(alloc, refusal, query)),
         Err(_) => Err(Memory),
     }
 }
 
 /// What a query that is ready runs to.
-fn run_ready(
-    rt: &impl Wait,
+fn run_ready<W: Wait, S: Source>(
+    rt: &W,
     alloc: Global,
     pool: &Pool,
+    table: &SlotTable<S>,
+    own: &mut Pass<Slot<S>>,
     pass: &mut PoolPass,
     ready: Ready,
 ) -> Result<LineOutcome, Memory>
+    requires serves { MayServe table.now pool.now own.old }
     requires ready { IsReady ready }
     requires own { IsPassOf pool.now pass.old }
     requires rests { WaitsForNothing pass.old }
     requires sources { HasSourcesIn pass.old ready }
+    ensures served { own.new ≡ own.old }
     ensures own { IsPassOf pool.now pass.new }
     ensures rests { WaitsForNothing pass.new }
     ensures knows { KnowsAll pass.old pass.new }
     ensures runs { IfOk result (RunsTo ready pass.old pass.new) }
     ensures writable { IfOk result CanBeWritten }
 {
-    let Ok(ended) = run_query(rt, alloc, pool, pass, &ready) else {
+    let Ok(ended) = run_and_fetch(rt, alloc, pool, table, own, pass, &ready) else {
         ready.query.let_go();
         return Err(Memory);
     };

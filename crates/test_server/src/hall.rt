@@ -130,15 +130,7 @@ pub(crate) fn serve<R: Threads + Wait + Clock + Sync, P: Port>(
         page: 1,
         ahead: 0,
     };
-    let served = serve_all(
-        rt,
-        alloc,
-        &mut lists,
-        slots.as_mut_slice(),
-        port,
-        settings,
-        conns,
-    );
+    let served = serve_all(rt, alloc, &mut lists, &mut slots, port, settings, conns);
     drop(slots);
     drop(lists);
     Some(served)

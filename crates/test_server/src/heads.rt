@@ -4,7 +4,6 @@ use super::server_visits::{NO_QUERY, comes_to, first_other};
 use super::{holds, none_is_wrong};
 use std::alloc::Global;
 use std::sync::Wait;
-use std::thread::Threads;
 use test_mem_source::visits::{BAD, NO_HEAD, NOT_ALLOWED, NOT_FOUND, Parts, TOO_LARGE};
 
 /// The end of a head.
@@ -62,12 +61,7 @@ fn of_lines(alloc: Global, lines: u32) -> Option<Vec<u8>> {
 }
 
 /// Whether a request, where there is one, gets this reply.
-fn gets<R: Threads + Wait + Sync>(
-    rt: &R,
-    alloc: Global,
-    request: Option<Vec<u8>>,
-    reply: &[&[u8]],
-) -> bool {
+fn gets(rt: &impl Wait, alloc: Global, request: Option<Vec<u8>>, reply: &[&[u8]]) -> bool {
     let Some(request) = request else {
         return false;
     };

@@ -4,7 +4,6 @@ use super::holds;
 use super::server_visits::serve_link;
 use std::alloc::Global;
 use std::sync::Wait;
-use std::thread::Threads;
 use test_mem_source::visits::{Parts, link_of};
 use wire::ConnEnd;
 
@@ -12,12 +11,7 @@ use wire::ConnEnd;
 const REQUEST: Parts = &[b"GET /top?q= HTTP/1.1\r\nHost: h\r\n\r\n"];
 
 /// Whether the connection ends by its link's fault, nothing being written, where these of its reads and writes fail.
-fn fails<R: Threads + Wait + Sync>(
-    rt: &R,
-    alloc: Global,
-    read_fails: &[u64],
-    write_fails: &[u64],
-) -> bool {
+fn fails(rt: &impl Wait, alloc: Global, read_fails: &[u64], write_fails: &[u64]) -> bool {
     let Some(mut link) = link_of(alloc, REQUEST, 10, read_fails, write_fails) else {
         return false;
     };

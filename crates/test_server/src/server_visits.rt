@@ -1,20 +1,25 @@
-//! Requests to the server over a link in memory, beside fetchers of its two sources, and their replies.
+//! Requests to the server over a link in memory, and their replies. One thread serves and fetches.
 
+ghost use Rattle.std.specs.Prelude.{◌≡◌, ◌<◌, ◌^◌, All, Some, length, IfSome};
 ghost use Rattle.source_pool.specs.Passes.{IsIdleOf};
+ghost use Rattle.fetcher.specs.Metering.{nothing};
+ghost use Rattle.workers.specs.Sides.{HasFeeder};
 ghost use Rattle.server_conn.specs.Entries.{MayAnswer};
+ghost use Rattle.test_query_support.specs.Pairs.{IsPair};
 
 use super::desk::{open_lists, opened_may_answer};
-use fetcher::Stop;
+use fetcher::{Fetched, Slot};
 use server_conn::{Answers, Opened, Turn, serve_conn};
 use source_pool::{Feeder, Pool, PoolPass};
 use std::alloc::Global;
 use std::sync::Wait;
-use std::thread::{Threads, join_mut};
 use test_mem_source::visits::{CLOSE, Parts, joined, link_of, status_in};
 use test_mem_source::{Held, Kind, MemSource, source_of};
-use test_query_support::{Pair, fetch_both_till_set};
+use test_query_support::Pair;
 use tk_io::MemLink;
+use topk_base::Settings;
 use wire::ConnEnd;
+use workers::open_sides;
 
 /// Two lists of three objects.
 const A: Held = Held {
@@ -55,83 +60,124 @@ fn is_reply(alloc: Global, turn: Turn, link: &MemLink, parts: &[&[u8]]) -> bool 
     is_so
 }
 
-/// The server's side: it answers the request of the link, and sets the sign.
+/// How the connection of a link ends over lists and the slots of their sources, of which this thread fetches for itself. None without memory.
 fn answer(
     rt: &impl Wait,
     alloc: Global,
     lists: &Opened,
     pool: &Pool,
     pass: &mut PoolPass,
-    link: &mut MemLink,
-    turn: &mut Option<Turn>,
-    stop: &Stop,
-)
-    requires { MayAnswer lists.now pool.now pass.old }
-{
-    if let Ok(mut answers) = Answers::make(alloc) {
-        *turn = Some(serve_conn(rt, alloc, lists, pool, pass, &mut answers, link));
-        drop(answers);
-    }
-    stop.set(pool);
-}
-
-/// All sides.
-fn run_all<R: Threads + Wait + Sync>(
-    rt: &R,
-    alloc: Global,
-    lists: &Opened,
-    pool: &Pool,
-    pass: &mut PoolPass,
-    first: &mut Feeder,
-    second: &mut Feeder,
-    sources: &mut (MemSource, MemSource),
+    slots: &mut Vec<Slot<MemSource>>,
     link: &mut MemLink,
 ) -> Option<Turn>
     requires may { MayAnswer lists.now pool.now pass.old }
-    requires first { IsIdleOf pool.now first.old }
-    requires second { IsIdleOf pool.now second.old }
+    requires feeders { All (λ slot. HasFeeder pool.now slot.feeder) slots.old.items }
+    requires fresh { All (λ slot. slot.fetched ≡ nothing) slots.old.items }
+    requires many { (length slots.old.items ≡ length pool.now) × (length slots.old.items < 2 ^ 32) }
 {
-    let stop = Stop::make();
-    let sign = &stop;
-    let mut turn = None;
-    let found = &mut turn;
-    join_mut(
+    let settings = Settings {
+        workers: 1,
+        page: 1,
+        ahead: 0,
+    };
+    let Ok(mut answers) = Answers::make(alloc) else {
+        return None;
+    };
+    let mut nobody: Vec<PoolPass> = Vec::new(alloc);
+    let Some((table, mut handles)) = open_sides(alloc, pool, &mut nobody, slots, settings) else {
+        drop(nobody);
+        drop(answers);
+        return None;
+    };
+    let own = &mut handles.first;
+    let turn = serve_conn(
         rt,
-        &mut ||
-            requires { (IsIdleOf pool.now first.now) × IsIdleOf pool.now second.now }
-        { fetch_both_till_set(rt, alloc, pool, first, second, sources, sign) },
-        &mut ||
-            requires { MayAnswer lists.now pool.now pass.now }
-        { answer(rt, alloc, lists, pool, pass, link, found, sign) },
+        alloc,
+        lists,
+        pool,
+        &table,
+        own,
+        pass,
+        &mut answers,
+        link,
     );
-    turn
+    drop(handles);
+    drop(table);
+    drop(nobody);
+    drop(answers);
+    Some(turn)
 }
 
-/// How the connection of a link ends over the four lists and these sources. None without memory.
-fn serve_over<R: Threads + Wait + Sync>(
-    rt: &R,
+/// The slot of a source with its feeder, of which nothing was fetched.
+fn slot_of(source: MemSource, feeder: Feeder) -> Slot<MemSource>
+    ensures feeder { result.feeder ≡ Some feeder }
+    ensures fresh { result.fetched ≡ nothing }
+{
+    Slot {
+        source,
+        feeder: Some(feeder),
+        fetched: Fetched { rows: 0, grades: 0 },
+    }
+}
+
+/// The slots of two sources with the feeders of a pool. None without memory.
+fn two_slots(
     alloc: Global,
-    sources: &mut (MemSource, MemSource),
+    pool: &Pool,
+    sources: (MemSource, MemSource),
+    feeders: (Feeder, Feeder),
+) -> Option<Vec<Slot<MemSource>>>
+    requires first { IsIdleOf pool.now feeders.0 }
+    requires second { IsIdleOf pool.now feeders.1 }
+    ensures feeders { IfSome result (λ slots. All (λ slot. HasFeeder pool.now slot.feeder) slots.items) }
+    ensures fresh { IfSome result (λ slots. All (λ slot. slot.fetched ≡ nothing) slots.items) }
+    ensures many { IfSome result (λ slots. length slots.items ≡ 2) }
+{
+    let (first, second) = sources;
+    let (its, other) = feeders;
+    let Ok(slots) = vec![in alloc; slot_of(first, its), slot_of(second, other)] else {
+        return None;
+    };
+    Some(slots)
+}
+
+/// A pool of a pair has two sources.
+fn has_two(pair: &Pair)
+    requires { IsPair 3 pair.now }
+    ensures { length pair.now.pool ≡ 2 }
+{}
+
+/// How the connection of a link ends over the four lists and these sources. None without memory.
+fn serve_over(
+    rt: &impl Wait,
+    alloc: Global,
+    sources: (MemSource, MemSource),
     link: &mut MemLink,
 ) -> Option<Turn> {
     let lists = open_lists(alloc)?;
-    let Some(mut pair) = Pair::open(alloc, 3) else {
+    let Some(pair) = Pair::open(alloc, 3) else {
+        drop(sources);
         drop(lists);
         return None;
     };
     opened_may_answer(&lists, &pair);
-    let turn = run_all(
-        rt,
-        alloc,
-        &lists,
-        &pair.pool,
-        &mut pair.pass,
-        &mut pair.first,
-        &mut pair.second,
-        sources,
-        link,
-    );
-    pair.let_go();
+    has_two(&pair);
+    let Pair {
+        pool,
+        mut pass,
+        first,
+        second,
+    } = pair;
+    let Some(mut slots) = two_slots(alloc, &pool, sources, (first, second)) else {
+        drop(pass);
+        drop(pool);
+        drop(lists);
+        return None;
+    };
+    let turn = answer(rt, alloc, &lists, &pool, &mut pass, &mut slots, link);
+    drop(slots);
+    drop(pass);
+    drop(pool);
     drop(lists);
     turn
 }
@@ -149,25 +195,13 @@ fn two_sources(alloc: Global) -> Option<(MemSource, MemSource)> {
 }
 
 /// How the connection of a link ends over the lists A and B. None without memory.
-pub(crate) fn serve_link<R: Threads + Wait + Sync>(
-    rt: &R,
-    alloc: Global,
-    link: &mut MemLink,
-) -> Option<Turn> {
-    let mut sources = two_sources(alloc)?;
-    let turn = serve_over(rt, alloc, &mut sources, link);
-    drop(sources);
-    turn
+pub(crate) fn serve_link(rt: &impl Wait, alloc: Global, link: &mut MemLink) -> Option<Turn> {
+    let sources = two_sources(alloc)?;
+    serve_over(rt, alloc, sources, link)
 }
 
 /// Whether a request gets this reply, where so many of its bytes come in one read.
-fn replies<R: Threads + Wait + Sync>(
-    rt: &R,
-    alloc: Global,
-    request: &[&[u8]],
-    piece: u32,
-    reply: &[&[u8]],
-) -> bool {
+fn replies(rt: &impl Wait, alloc: Global, request: &[&[u8]], piece: u32, reply: &[&[u8]]) -> bool {
     let Some(mut link) = link_of(alloc, request, piece, &[], &[]) else {
         return false;
     };
@@ -180,18 +214,13 @@ fn replies<R: Threads + Wait + Sync>(
 }
 
 /// Whether a request gets this reply, whole and byte by byte.
-pub(crate) fn comes_to<R: Threads + Wait + Sync>(
-    rt: &R,
-    alloc: Global,
-    request: &[&[u8]],
-    reply: &[&[u8]],
-) -> bool {
+pub(crate) fn comes_to(rt: &impl Wait, alloc: Global, request: &[&[u8]], reply: &[&[u8]]) -> bool {
     replies(rt, alloc, request, 1_000_000, reply) && replies(rt, alloc, request, 1, reply)
 }
 
 /// The place of the first request that gets another reply.
-pub(crate) fn first_other<R: Threads + Wait + Sync>(
-    rt: &R,
+pub(crate) fn first_other(
+    rt: &impl Wait,
     alloc: Global,
     visits: &[(Parts, Parts)],
 ) -> Option<usize> {

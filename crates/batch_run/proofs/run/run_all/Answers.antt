@@ -1,4 +1,4 @@
-use Rattle.std.proofs.Common.{All, is_some, true, refl, sym, subst, ◌≡◌, ◌∙◌, arith}
+use Rattle.std.proofs.Common.{refl, sym, subst, ◌∙◌, arith}
 use Rattle.std.proofs.lemmas.Result.{IfOk-weaker}
 use Rattle.query_run.proofs.Stops.{failed_too}
 use Rattle.batch_result.specs.Batches.{IsBatch}
@@ -6,7 +6,7 @@ use Rattle.batch_result.specs.Cut.{IsCut}
 use Rattle.batch_run.specs.Slots.{states_of}
 use Rattle.batch_run.specs.Finishing.{slots_run, CanFinish}
 use Rattle.batch_run.proofs.CrewLaws.{all_at_work}
-use Rattle.batch_run.proofs.SlotLaws.{all_fed, all_fresh, all_full, came_back, empty_slots, lent_slots, taken_slots}
+use Rattle.batch_run.proofs.SlotLaws.{all_fed, all_fresh, all_full}
 use Rattle.batch_run.proofs.RunLaws.{run_is, failed_so, has_run, kept_lists, kept_versions, kept_counts, counts_same}
 use Rattle.batch_run.proofs.UncalledLaws.{cut_uncalled}
 use Rattle.batch_run.proofs.run.run_all.Goals as goal
@@ -32,88 +32,71 @@ run_sides-requires-clause-feeders g c κs within =
     let feeders = new.feeders.size in
     let size = new.hiring.base.size in
     let many = c.requires.sources in
-    all_fed g.S.Source.list g.S.Source.counts g.S.Source.at_hand crew.pool crew.feeders.items c.args.sources.now.items (came_back c.args.sources.now.len c.args.sources.now.items c.lend.new.slots)
+    all_fed g.S.Source.list g.S.Source.counts g.S.Source.at_hand crew.pool crew.feeders.items c.args.sources.now.items c.lend.new.slots.items
     (omega (arith, feeders, size, many)) new.feeders
-    (lent_slots g.S.Source.list g.S.Source.counts g.S.Source.at_hand c.args.sources.now.len c.in_ok-crew.crew.feeders.items c.args.sources.now.items c.as_mut_slice.result.now c.lend.new.slots c.args.sources.now.ok.0
-    c.as_mut_slice.ensures.value c.lend.ensures.lent)
+    c.lend.ensures.lent
 
 pub run_sides-requires-clause-fresh : goal.run_sides-requires-clause-fresh
 run_sides-requires-clause-fresh g c κs within =
-    all_fresh g.S.Source.list g.S.Source.counts g.S.Source.at_hand c.in_ok-crew.crew.feeders.items c.args.sources.now.items (came_back c.args.sources.now.len c.args.sources.now.items c.lend.new.slots)
-    (lent_slots g.S.Source.list g.S.Source.counts g.S.Source.at_hand c.args.sources.now.len c.in_ok-crew.crew.feeders.items c.args.sources.now.items c.as_mut_slice.result.now c.lend.new.slots c.args.sources.now.ok.0
-    c.as_mut_slice.ensures.value c.lend.ensures.lent)
+    all_fresh g.S.Source.list g.S.Source.counts g.S.Source.at_hand c.in_ok-crew.crew.feeders.items c.args.sources.now.items c.lend.new.slots.items
+    c.lend.ensures.lent
 
 pub run_sides-requires-clause-many : goal.run_sides-requires-clause-many
 run_sides-requires-clause-many g c κs within =
     let new = c.in_ok-crew.ensures in
     let size = new.hiring.base.size in
     let many = c.requires.sources in
-    let given = (lent_slots g.S.Source.list g.S.Source.counts g.S.Source.at_hand c.args.sources.now.len c.in_ok-crew.crew.feeders.items c.args.sources.now.items c.as_mut_slice.result.now c.lend.new.slots c.args.sources.now.ok.0
-    c.as_mut_slice.ensures.value c.lend.ensures.lent) in
+    let given = c.lend.ensures.lent in
     given.size ∙ (sym many ∙ sym size)
 
 pub take_back-requires-clause-full : goal.take_back-requires-clause-full
 take_back-requires-clause-full g c κs within =
-    subst (All (λ slot. is_some slot.feeder ≡ true)) (sym c.as_mut_slice-2.ensures.value)
-    (all_full g.S.Source.list g.S.Source.counts g.S.Source.at_hand c.in_ok-crew.crew.pool c.args.settings _ c.run_sides.new.slots.items c.run_sides.ensures.fetched)
-
-pub returns-clause-empty : goal.returns-clause-empty
-returns-clause-empty g c =
-    empty_slots g.S.Source.list g.S.Source.counts g.S.Source.at_hand c.run_sides.new.slots.len c.take_back.new.feeders.items c.run_sides.new.slots.items c.as_mut_slice-2.result.now c.take_back.new.slots c.run_sides.new.slots.ok.0
-    c.as_mut_slice-2.ensures.value c.take_back.ensures.back c.take_back.ensures.empty
+    all_full g.S.Source.list g.S.Source.counts g.S.Source.at_hand c.in_ok-crew.crew.pool c.args.settings _ c.run_sides.new.slots.items c.run_sides.ensures.fetched
 
 pub returns-clause-lists : goal.returns-clause-lists
 returns-clause-lists g c =
     let ran = has_run g.S.Source.list g.S.Source.counts g.S.Source.at_hand c.args.settings c.args.counts.now c.args.queries.now c.in_ok-crew.crew (record c.in_ok-crew.crew { feeders = c.take_back.new.feeders; workers = c.run_sides.new.workers })
-    c.args.sources.now.items (came_back c.args.sources.now.len c.args.sources.now.items c.lend.new.slots) c.run_sides.new.slots.items (came_back c.run_sides.new.slots.len c.run_sides.new.slots.items c.take_back.new.slots)
+    c.args.sources.now.items c.lend.new.slots.items c.run_sides.new.slots.items c.take_back.new.slots.items
     c.in_ok-crew.ensures c.requires.sources
-    (lent_slots g.S.Source.list g.S.Source.counts g.S.Source.at_hand c.args.sources.now.len c.in_ok-crew.crew.feeders.items c.args.sources.now.items c.as_mut_slice.result.now c.lend.new.slots c.args.sources.now.ok.0
-    c.as_mut_slice.ensures.value c.lend.ensures.lent)
+    c.lend.ensures.lent
     c.run_sides.ensures.fetched
-    (taken_slots g.S.Source.list g.S.Source.counts g.S.Source.at_hand c.run_sides.new.slots.len c.take_back.new.feeders.items c.run_sides.new.slots.items c.as_mut_slice-2.result.now c.take_back.new.slots c.run_sides.new.slots.ok.0
-    c.as_mut_slice-2.ensures.value c.take_back.ensures.back)
+    c.take_back.ensures.back
     c.run_sides.ensures.worked refl in
-    kept_lists g.S.Source.list g.S.Source.counts g.S.Source.at_hand c.args.settings c.args.counts.now c.args.queries.now c.args.sources.now.items (came_back c.run_sides.new.slots.len c.run_sides.new.slots.items c.take_back.new.slots) _ ran
+    kept_lists g.S.Source.list g.S.Source.counts g.S.Source.at_hand c.args.settings c.args.counts.now c.args.queries.now c.args.sources.now.items c.take_back.new.slots.items _ ran
 
 pub returns-clause-versions : goal.returns-clause-versions
 returns-clause-versions g c =
     let ran = has_run g.S.Source.list g.S.Source.counts g.S.Source.at_hand c.args.settings c.args.counts.now c.args.queries.now c.in_ok-crew.crew (record c.in_ok-crew.crew { feeders = c.take_back.new.feeders; workers = c.run_sides.new.workers })
-    c.args.sources.now.items (came_back c.args.sources.now.len c.args.sources.now.items c.lend.new.slots) c.run_sides.new.slots.items (came_back c.run_sides.new.slots.len c.run_sides.new.slots.items c.take_back.new.slots)
+    c.args.sources.now.items c.lend.new.slots.items c.run_sides.new.slots.items c.take_back.new.slots.items
     c.in_ok-crew.ensures c.requires.sources
-    (lent_slots g.S.Source.list g.S.Source.counts g.S.Source.at_hand c.args.sources.now.len c.in_ok-crew.crew.feeders.items c.args.sources.now.items c.as_mut_slice.result.now c.lend.new.slots c.args.sources.now.ok.0
-    c.as_mut_slice.ensures.value c.lend.ensures.lent)
+    c.lend.ensures.lent
     c.run_sides.ensures.fetched
-    (taken_slots g.S.Source.list g.S.Source.counts g.S.Source.at_hand c.run_sides.new.slots.len c.take_back.new.feeders.items c.run_sides.new.slots.items c.as_mut_slice-2.result.now c.take_back.new.slots c.run_sides.new.slots.ok.0
-    c.as_mut_slice-2.ensures.value c.take_back.ensures.back)
+    c.take_back.ensures.back
     c.run_sides.ensures.worked refl in
-    kept_versions g.S.Source.list g.S.Source.counts g.S.Source.at_hand c.args.settings c.args.counts.now c.args.queries.now c.args.sources.now.items (came_back c.run_sides.new.slots.len c.run_sides.new.slots.items c.take_back.new.slots) _ ran
+    kept_versions g.S.Source.list g.S.Source.counts g.S.Source.at_hand c.args.settings c.args.counts.now c.args.queries.now c.args.sources.now.items c.take_back.new.slots.items _ ran
 
 pub returns-clause-later : goal.returns-clause-later
 returns-clause-later g c =
     let ran = has_run g.S.Source.list g.S.Source.counts g.S.Source.at_hand c.args.settings c.args.counts.now c.args.queries.now c.in_ok-crew.crew (record c.in_ok-crew.crew { feeders = c.take_back.new.feeders; workers = c.run_sides.new.workers })
-    c.args.sources.now.items (came_back c.args.sources.now.len c.args.sources.now.items c.lend.new.slots) c.run_sides.new.slots.items (came_back c.run_sides.new.slots.len c.run_sides.new.slots.items c.take_back.new.slots)
+    c.args.sources.now.items c.lend.new.slots.items c.run_sides.new.slots.items c.take_back.new.slots.items
     c.in_ok-crew.ensures c.requires.sources
-    (lent_slots g.S.Source.list g.S.Source.counts g.S.Source.at_hand c.args.sources.now.len c.in_ok-crew.crew.feeders.items c.args.sources.now.items c.as_mut_slice.result.now c.lend.new.slots c.args.sources.now.ok.0
-    c.as_mut_slice.ensures.value c.lend.ensures.lent)
+    c.lend.ensures.lent
     c.run_sides.ensures.fetched
-    (taken_slots g.S.Source.list g.S.Source.counts g.S.Source.at_hand c.run_sides.new.slots.len c.take_back.new.feeders.items c.run_sides.new.slots.items c.as_mut_slice-2.result.now c.take_back.new.slots c.run_sides.new.slots.ok.0
-    c.as_mut_slice-2.ensures.value c.take_back.ensures.back)
+    c.take_back.ensures.back
     c.run_sides.ensures.worked refl in
-    kept_counts g.S.Source.list g.S.Source.counts g.S.Source.at_hand c.args.settings c.args.counts.now c.args.queries.now c.args.sources.now.items (came_back c.run_sides.new.slots.len c.run_sides.new.slots.items c.take_back.new.slots) _ ran
+    kept_counts g.S.Source.list g.S.Source.counts g.S.Source.at_hand c.args.settings c.args.counts.now c.args.queries.now c.args.sources.now.items c.take_back.new.slots.items _ ran
 
 pub finish-requires-after_bounds : goal.finish-requires-after_bounds
 finish-requires-after_bounds g c κs within =
     let ran = has_run g.S.Source.list g.S.Source.counts g.S.Source.at_hand c.args.settings c.args.counts.now c.args.queries.now c.in_ok-crew.crew (record c.in_ok-crew.crew { feeders = c.take_back.new.feeders; workers = c.run_sides.new.workers })
-    c.args.sources.now.items (came_back c.args.sources.now.len c.args.sources.now.items c.lend.new.slots) c.run_sides.new.slots.items (came_back c.run_sides.new.slots.len c.run_sides.new.slots.items c.take_back.new.slots)
+    c.args.sources.now.items c.lend.new.slots.items c.run_sides.new.slots.items c.take_back.new.slots.items
     c.in_ok-crew.ensures c.requires.sources
-    (lent_slots g.S.Source.list g.S.Source.counts g.S.Source.at_hand c.args.sources.now.len c.in_ok-crew.crew.feeders.items c.args.sources.now.items c.as_mut_slice.result.now c.lend.new.slots c.args.sources.now.ok.0
-    c.as_mut_slice.ensures.value c.lend.ensures.lent)
+    c.lend.ensures.lent
     c.run_sides.ensures.fetched
-    (taken_slots g.S.Source.list g.S.Source.counts g.S.Source.at_hand c.run_sides.new.slots.len c.take_back.new.feeders.items c.run_sides.new.slots.items c.as_mut_slice-2.result.now c.take_back.new.slots c.run_sides.new.slots.ok.0
-    c.as_mut_slice-2.ensures.value c.take_back.ensures.back)
+    c.take_back.ensures.back
     c.run_sides.ensures.worked refl in
     let before = states_of g.S.Source.list g.S.Source.counts g.S.Source.at_hand c.args.sources.now.items in
-    let can : CanFinish c.args.settings c.args.counts.now c.args.queries.now before (states_of g.S.Source.list g.S.Source.counts g.S.Source.at_hand (came_back c.run_sides.new.slots.len c.run_sides.new.slots.items c.take_back.new.slots)) (record c.in_ok-crew.crew { feeders = c.take_back.new.feeders; workers = c.run_sides.new.workers }) =
+    let can : CanFinish c.args.settings c.args.counts.now c.args.queries.now before (states_of g.S.Source.list g.S.Source.counts g.S.Source.at_hand c.take_back.new.slots.items) (record c.in_ok-crew.crew { feeders = c.take_back.new.feeders; workers = c.run_sides.new.workers }) =
     record { settings_are = c.requires.settings; ran = ran; few = (c.requires.few_queries, c.requires.few_sources) } in
     let lent = subst (λ slots. CanFinish c.args.settings c.args.counts.now c.args.queries.now before (states_of g.S.Source.list g.S.Source.counts g.S.Source.at_hand slots) (record c.in_ok-crew.crew { feeders = c.take_back.new.feeders; workers = c.run_sides.new.workers }))
     (sym c.deref.ensures.value) can in
@@ -122,22 +105,20 @@ finish-requires-after_bounds g c κs within =
 pub returns-clause-cut : goal.returns-clause-cut
 returns-clause-cut g c =
     let ran = has_run g.S.Source.list g.S.Source.counts g.S.Source.at_hand c.args.settings c.args.counts.now c.args.queries.now c.in_ok-crew.crew (record c.in_ok-crew.crew { feeders = c.take_back.new.feeders; workers = c.run_sides.new.workers })
-    c.args.sources.now.items (came_back c.args.sources.now.len c.args.sources.now.items c.lend.new.slots) c.run_sides.new.slots.items (came_back c.run_sides.new.slots.len c.run_sides.new.slots.items c.take_back.new.slots)
+    c.args.sources.now.items c.lend.new.slots.items c.run_sides.new.slots.items c.take_back.new.slots.items
     c.in_ok-crew.ensures c.requires.sources
-    (lent_slots g.S.Source.list g.S.Source.counts g.S.Source.at_hand c.args.sources.now.len c.in_ok-crew.crew.feeders.items c.args.sources.now.items c.as_mut_slice.result.now c.lend.new.slots c.args.sources.now.ok.0
-    c.as_mut_slice.ensures.value c.lend.ensures.lent)
+    c.lend.ensures.lent
     c.run_sides.ensures.fetched
-    (taken_slots g.S.Source.list g.S.Source.counts g.S.Source.at_hand c.run_sides.new.slots.len c.take_back.new.feeders.items c.run_sides.new.slots.items c.as_mut_slice-2.result.now c.take_back.new.slots c.run_sides.new.slots.ok.0
-    c.as_mut_slice-2.ensures.value c.take_back.ensures.back)
+    c.take_back.ensures.back
     c.run_sides.ensures.worked refl in
     let before = states_of g.S.Source.list g.S.Source.counts g.S.Source.at_hand c.args.sources.now.items in
-    let can : CanFinish c.args.settings c.args.counts.now c.args.queries.now before (states_of g.S.Source.list g.S.Source.counts g.S.Source.at_hand (came_back c.run_sides.new.slots.len c.run_sides.new.slots.items c.take_back.new.slots)) (record c.in_ok-crew.crew { feeders = c.take_back.new.feeders; workers = c.run_sides.new.workers }) =
+    let can : CanFinish c.args.settings c.args.counts.now c.args.queries.now before (states_of g.S.Source.list g.S.Source.counts g.S.Source.at_hand c.take_back.new.slots.items) (record c.in_ok-crew.crew { feeders = c.take_back.new.feeders; workers = c.run_sides.new.workers }) =
     record { settings_are = c.requires.settings; ran = ran; few = (c.requires.few_queries, c.requires.few_sources) } in
     let lent = subst (λ slots. CanFinish c.args.settings c.args.counts.now c.args.queries.now before (states_of g.S.Source.list g.S.Source.counts g.S.Source.at_hand slots) (record c.in_ok-crew.crew { feeders = c.take_back.new.feeders; workers = c.run_sides.new.workers }))
     (sym c.deref.ensures.value) can in
     failed_so c.finish.result
     (λ h.
-    subst IsCut (sym (run_is g.S.Source.list g.S.Source.counts g.S.Source.at_hand c.args.settings c.args.counts.now c.args.queries.now c.args.sources.now.items (came_back c.run_sides.new.slots.len c.run_sides.new.slots.items c.take_back.new.slots)))
+    subst IsCut (sym (run_is g.S.Source.list g.S.Source.counts g.S.Source.at_hand c.args.settings c.args.counts.now c.args.queries.now c.args.sources.now.items c.take_back.new.slots.items))
     (subst (λ slots. IsCut (slots_run c.args.settings c.args.counts.now c.args.queries.now before (states_of g.S.Source.list g.S.Source.counts g.S.Source.at_hand slots))) c.deref.ensures.value
     (h c.args.settings c.args.counts.now c.args.queries.now before lent)))
     c.finish.ensures.cut
@@ -145,22 +126,20 @@ returns-clause-cut g c =
 pub returns-clause-batch : goal.returns-clause-batch
 returns-clause-batch g c =
     let ran = has_run g.S.Source.list g.S.Source.counts g.S.Source.at_hand c.args.settings c.args.counts.now c.args.queries.now c.in_ok-crew.crew (record c.in_ok-crew.crew { feeders = c.take_back.new.feeders; workers = c.run_sides.new.workers })
-    c.args.sources.now.items (came_back c.args.sources.now.len c.args.sources.now.items c.lend.new.slots) c.run_sides.new.slots.items (came_back c.run_sides.new.slots.len c.run_sides.new.slots.items c.take_back.new.slots)
+    c.args.sources.now.items c.lend.new.slots.items c.run_sides.new.slots.items c.take_back.new.slots.items
     c.in_ok-crew.ensures c.requires.sources
-    (lent_slots g.S.Source.list g.S.Source.counts g.S.Source.at_hand c.args.sources.now.len c.in_ok-crew.crew.feeders.items c.args.sources.now.items c.as_mut_slice.result.now c.lend.new.slots c.args.sources.now.ok.0
-    c.as_mut_slice.ensures.value c.lend.ensures.lent)
+    c.lend.ensures.lent
     c.run_sides.ensures.fetched
-    (taken_slots g.S.Source.list g.S.Source.counts g.S.Source.at_hand c.run_sides.new.slots.len c.take_back.new.feeders.items c.run_sides.new.slots.items c.as_mut_slice-2.result.now c.take_back.new.slots c.run_sides.new.slots.ok.0
-    c.as_mut_slice-2.ensures.value c.take_back.ensures.back)
+    c.take_back.ensures.back
     c.run_sides.ensures.worked refl in
     let before = states_of g.S.Source.list g.S.Source.counts g.S.Source.at_hand c.args.sources.now.items in
-    let can : CanFinish c.args.settings c.args.counts.now c.args.queries.now before (states_of g.S.Source.list g.S.Source.counts g.S.Source.at_hand (came_back c.run_sides.new.slots.len c.run_sides.new.slots.items c.take_back.new.slots)) (record c.in_ok-crew.crew { feeders = c.take_back.new.feeders; workers = c.run_sides.new.workers }) =
+    let can : CanFinish c.args.settings c.args.counts.now c.args.queries.now before (states_of g.S.Source.list g.S.Source.counts g.S.Source.at_hand c.take_back.new.slots.items) (record c.in_ok-crew.crew { feeders = c.take_back.new.feeders; workers = c.run_sides.new.workers }) =
     record { settings_are = c.requires.settings; ran = ran; few = (c.requires.few_queries, c.requires.few_sources) } in
     let lent = subst (λ slots. CanFinish c.args.settings c.args.counts.now c.args.queries.now before (states_of g.S.Source.list g.S.Source.counts g.S.Source.at_hand slots) (record c.in_ok-crew.crew { feeders = c.take_back.new.feeders; workers = c.run_sides.new.workers }))
     (sym c.deref.ensures.value) can in
     IfOk-weaker c.finish.result _ _
     (λ batch h.
-    subst (λ r. IsBatch r batch) (sym (run_is g.S.Source.list g.S.Source.counts g.S.Source.at_hand c.args.settings c.args.counts.now c.args.queries.now c.args.sources.now.items (came_back c.run_sides.new.slots.len c.run_sides.new.slots.items c.take_back.new.slots)))
+    subst (λ r. IsBatch r batch) (sym (run_is g.S.Source.list g.S.Source.counts g.S.Source.at_hand c.args.settings c.args.counts.now c.args.queries.now c.args.sources.now.items c.take_back.new.slots.items))
     (subst (λ slots. IsBatch (slots_run c.args.settings c.args.counts.now c.args.queries.now before (states_of g.S.Source.list g.S.Source.counts g.S.Source.at_hand slots)) batch) c.deref.ensures.value
     (h c.args.settings c.args.counts.now c.args.queries.now before lent)))
     c.finish.ensures.batch
@@ -168,16 +147,14 @@ returns-clause-batch g c =
 pub returns-clause-right : goal.returns-clause-right
 returns-clause-right g c =
     let ran = has_run g.S.Source.list g.S.Source.counts g.S.Source.at_hand c.args.settings c.args.counts.now c.args.queries.now c.in_ok-crew.crew (record c.in_ok-crew.crew { feeders = c.take_back.new.feeders; workers = c.run_sides.new.workers })
-    c.args.sources.now.items (came_back c.args.sources.now.len c.args.sources.now.items c.lend.new.slots) c.run_sides.new.slots.items (came_back c.run_sides.new.slots.len c.run_sides.new.slots.items c.take_back.new.slots)
+    c.args.sources.now.items c.lend.new.slots.items c.run_sides.new.slots.items c.take_back.new.slots.items
     c.in_ok-crew.ensures c.requires.sources
-    (lent_slots g.S.Source.list g.S.Source.counts g.S.Source.at_hand c.args.sources.now.len c.in_ok-crew.crew.feeders.items c.args.sources.now.items c.as_mut_slice.result.now c.lend.new.slots c.args.sources.now.ok.0
-    c.as_mut_slice.ensures.value c.lend.ensures.lent)
+    c.lend.ensures.lent
     c.run_sides.ensures.fetched
-    (taken_slots g.S.Source.list g.S.Source.counts g.S.Source.at_hand c.run_sides.new.slots.len c.take_back.new.feeders.items c.run_sides.new.slots.items c.as_mut_slice-2.result.now c.take_back.new.slots c.run_sides.new.slots.ok.0
-    c.as_mut_slice-2.ensures.value c.take_back.ensures.back)
+    c.take_back.ensures.back
     c.run_sides.ensures.worked refl in
     let before = states_of g.S.Source.list g.S.Source.counts g.S.Source.at_hand c.args.sources.now.items in
-    let can : CanFinish c.args.settings c.args.counts.now c.args.queries.now before (states_of g.S.Source.list g.S.Source.counts g.S.Source.at_hand (came_back c.run_sides.new.slots.len c.run_sides.new.slots.items c.take_back.new.slots)) (record c.in_ok-crew.crew { feeders = c.take_back.new.feeders; workers = c.run_sides.new.workers }) =
+    let can : CanFinish c.args.settings c.args.counts.now c.args.queries.now before (states_of g.S.Source.list g.S.Source.counts g.S.Source.at_hand c.take_back.new.slots.items) (record c.in_ok-crew.crew { feeders = c.take_back.new.feeders; workers = c.run_sides.new.workers }) =
     record { settings_are = c.requires.settings; ran = ran; few = (c.requires.few_queries, c.requires.few_sources) } in
     let lent = subst (λ slots. CanFinish c.args.settings c.args.counts.now c.args.queries.now before (states_of g.S.Source.list g.S.Source.counts g.S.Source.at_hand slots) (record c.in_ok-crew.crew { feeders = c.take_back.new.feeders; workers = c.run_sides.new.workers }))
     (sym c.deref.ensures.value) can in

@@ -5,6 +5,6 @@ use Rattle.batch_run.proofs.work.work.Given as goal
 
 abbrev pub invariant-loop : goal.invariant-loop
 invariant-loop g l = record {
-  share : l.pass ≡ share_of l.table.lock 1;
+  share : l.own ≡ share_of l.table.lock 1;
   worked : Worked l.pool l.tickets l.queries l.fn.handle.worker l.worker;
 }

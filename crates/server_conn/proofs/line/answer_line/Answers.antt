@@ -21,7 +21,7 @@ pub returns-in-Err-clause-knows : goal.returns-in-Err-clause-knows
 returns-in-Err-clause-knows g c = knows_same c.args.pass.now
 
 pub run_ready-requires-clause-sources : goal.run_ready-requires-clause-sources
-run_ready-requires-clause-sources g c =
+run_ready-requires-clause-sources g c κs within =
     subst (HasSources c.args.pass.now) c.in-Ok-Ready.field-0-is (c.in-Ok-Ready.ensures.sources c.args.pass.now c.requires.fit.sources)
 
 pub returns-in-Ok-Ready-clause-becomes : goal.returns-in-Ok-Ready-clause-becomes

@@ -6,18 +6,18 @@ use Rattle.server_conn.proofs.LineLaws.{runs_to, ended_writable}
 use Rattle.server_conn.proofs.line.run_ready.Goals as goal
 
 pub returns-clause-knows : goal.returns-clause-knows
-returns-clause-knows g c = knows_advanced c.args.ready.sources.items c.args.pass.now c.run_query.new.pass c.run_query.ensures.advances
+returns-clause-knows g c = knows_advanced c.args.ready.sources.items c.args.pass.now c.run_and_fetch.new.pass c.run_and_fetch.ensures.advances
 
 pub returns-clause-runs : goal.returns-clause-runs
 returns-clause-runs g c =
     let ready = c.args.ready in
     let ended = c.in-Ok.ended in
-    IfOk-weaker c.line_ended.result (IsEndedAs ready ended) (RunsTo ready c.args.pass.now c.run_query.new.pass)
-    (runs_to ready c.args.pass.now c.run_query.new.pass ended c.in-Ok.ensures.ran c.in-Ok.ensures.right) c.line_ended.ensures
+    IfOk-weaker c.line_ended.result (IsEndedAs ready ended) (RunsTo ready c.args.pass.now c.run_and_fetch.new.pass)
+    (runs_to ready c.args.pass.now c.run_and_fetch.new.pass ended c.in-Ok.ensures.ran c.in-Ok.ensures.right) c.line_ended.ensures
 
 pub returns-clause-writable : goal.returns-clause-writable
 returns-clause-writable g c =
     let ready = c.args.ready in
     let ended = c.in-Ok.ended in
     IfOk-weaker c.line_ended.result (IsEndedAs ready ended) CanBeWritten
-    (ended_writable ready c.args.pass.now c.run_query.new.pass ended c.in-Ok.ensures.ran c.in-Ok.ensures.right) c.line_ended.ensures
+    (ended_writable ready c.args.pass.now c.run_and_fetch.new.pass ended c.in-Ok.ensures.ran c.in-Ok.ensures.right) c.line_ended.ensures

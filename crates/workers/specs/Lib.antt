@@ -1,0 +1,2 @@
+-- What workers and fetchers have of a slot table.
+pub mod Sides
