@@ -155,6 +155,12 @@ LIES: dict[str, tuple[Lists, dict[tuple[str, int], int], dict[str, int], list[st
                   ["Strangers 3 2"]),
     "clash": (LISTS, {("A", 2): 850}, {}, [LINE], ["Clash A 2 800 850"]),
     "above": (LISTS, {("A", 2): 950}, {}, [LINE], ["Above A 2 950 900"]),
+    "above a later row": ({**LISTS, "A": [(1, 900), (3, 840), (2, 800)]}, {("A", 2): 850}, {}, [LINE],
+                          ["Above A 2 850 840"]),
+    "above, of two the first that was asked for": (
+        {"A": [(1, 900), (3, 840), (2, 800), (4, 700)], "B": [(2, 700), (1, 500), (3, 400), (4, 300)],
+         "C": [(4, 700), (1, 500), (3, 400), (2, 300)]}, {("A", 2): 850, ("A", 4): 860}, {},
+        ["top 1 by sum(A,B,C) using ta"], ["Above A 2 850 840"]),
     "too high": ({"A": [(1, 1_000_001), (2, 5)]}, {}, {}, ["top 1 by A using nra"], ["TooHigh A 1 1000001"]),
     "short": ({"A": LISTS["A"]}, {}, {"A": 5}, ["top 5 by A using nra"], ["ShortList A 5 3"]),
     "asks full": ({"A": [(1, 9), (2, 8)], "B": [(3, 7), (1, 6)], "C": [(4, 7), (1, 6)], "D": [(5, 7), (1, 6)]}, {}, {},

@@ -135,9 +135,10 @@ def hotel_lists() -> dict[str, list[tuple[int, int]]]:
 
 
 def rows_in(text: str) -> list[tuple[int, int]]:
-    """The rows of a list file, or of a section of a bundle."""
-    pairs = (line.split(",") for line in text.split() if line[0].isdigit())
-    return [(int(item), int(grade)) for item, grade in pairs]
+    """The rows of a list file, or of a section of a bundle. What is none has its place too."""
+    records = text.lstrip("\ufeff").replace('"', "").split()
+    found = (re.fullmatch(r"(\d+),(\d+)", it) for it in records[records[:1] == ["object,grade"]:])
+    return [(int(row[1]), int(row[2])) if row else (-1, -1) for row in found]
 
 
 def run_at(program: str, ports: Mapping[str, int], lines: bytes, *words: str) -> Done[bytes]:

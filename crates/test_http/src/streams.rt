@@ -1,11 +1,10 @@
 //! What no clause says: that calls succeed with ample memory, each fault in turn, and the real streams.
 
-use super::{holds, none_is_wrong};
 use std::alloc::Global;
 use std::io;
 use std::io::{ErrorKind, Read, Write};
 use std::test::Fail;
-use test_support::Counting;
+use test_support::{Counting, wrong_rows};
 use tk_io::{
     Failed, MemIntake, MemSink, PIECE, Put, ReadError, Sink, StdIntake, StdSink, Writer, read_text,
     write_text,
@@ -13,55 +12,64 @@ use tk_io::{
 
 const TEXT: &[u8] = b"list A\n1,900\n";
 
-/// The most bytes of a piece, the calls that fail, the most bytes that are read, and what comes of it.
-type ReadRow = (u32, &'static [u64], u64, Option<ReadError>);
+/// What comes of reading.
+#[derive(Clone, Copy, Debug, PartialEq, Eq)]
+enum Came {
+    TheText,
+    Other,
+    Fault(ReadError),
+}
 
-const READS: &[ReadRow] = &[
-    (1, &[], 13, None),
-    (5, &[], 13, None),
-    (100, &[], 13, None),
-    (5, &[1], 100, Some(ReadError::Failed)),
-    (5, &[2], 100, Some(ReadError::Failed)),
-    (5, &[3], 100, Some(ReadError::Failed)),
-    (5, &[], 12, Some(ReadError::Long)),
+/// The most bytes of a piece, the calls that fail, and the most bytes that are read.
+type Reading = (u32, &'static [u64], u64);
+
+static READS: &[(&str, Reading, Came)] = &[
+    ("byte by byte", (1, &[], 13), Came::TheText),
+    ("in three pieces", (5, &[], 13), Came::TheText),
+    ("in one piece", (100, &[], 13), Came::TheText),
+    (
+        "the first call fails",
+        (5, &[1], 100),
+        Came::Fault(ReadError::Failed),
+    ),
+    (
+        "the second call fails",
+        (5, &[2], 100),
+        Came::Fault(ReadError::Failed),
+    ),
+    (
+        "the third call fails",
+        (5, &[3], 100),
+        Came::Fault(ReadError::Failed),
+    ),
+    (
+        "a byte too many",
+        (5, &[], 12),
+        Came::Fault(ReadError::Long),
+    ),
 ];
 
-/// Whether reading ended so: with a fault, or with the text where none is expected.
-fn is_read(read: Result<Vec<u8>, ReadError>, expected: Option<ReadError>) -> bool {
+/// What comes of a text that was read.
+fn came_of(read: Result<Vec<u8>, ReadError>) -> Came {
     match read {
-        Ok(text) => expected.is_none() && text.as_slice() == TEXT,
-        Err(fault) => expected == Some(fault),
+        Ok(text) => {
+            let is_so = text.as_slice() == TEXT;
+            drop(text);
+            if is_so { Came::TheText } else { Came::Other }
+        }
+        Err(fault) => Came::Fault(fault),
     }
 }
 
 /// What comes of reading the text in pieces of so many bytes, where these calls fail.
-fn read_in_pieces(
-    alloc: Global,
-    piece: u32,
-    fails: &[u64],
-    limit: u64,
-) -> Result<Vec<u8>, ReadError> {
-    let Ok(mut input) = MemIntake::make(alloc, TEXT, piece.max(1), fails) else {
-        return Err(ReadError::Memory);
+fn read_in_pieces(alloc: Global, given: &Reading) -> Came {
+    let (piece, fails, limit) = given;
+    let Ok(mut input) = MemIntake::make(alloc, TEXT, (*piece).max(1), *fails) else {
+        return Came::Other;
     };
-    let read = read_text(alloc, &mut input, limit);
+    let read = read_text(alloc, &mut input, *limit);
     drop(input);
-    read
-}
-
-/// The number of the first row that isn't read as it says.
-fn first_wrong(alloc: Global, rows: &[ReadRow]) -> Option<usize> {
-    for (number, (piece, fails, limit, expected)) in rows.iter().enumerate() {
-        if !is_read(read_in_pieces(alloc, *piece, fails, *limit), *expected) {
-            return Some(number);
-        }
-    }
-    None
-}
-
-#[test]
-fn reads_whole_texts(rt: HostRuntime) {
-    none_is_wrong(&rt, first_wrong(rt.alloc(), READS));
+    came_of(read)
 }
 
 /// Whether the text is written once, and then what there is room for.
@@ -87,13 +95,6 @@ fn writes_nothing(alloc: Global) -> bool {
     fails && is_empty
 }
 
-#[test]
-fn writes_whole_texts(rt: HostRuntime) {
-    let writes = writes_until_full(rt.alloc());
-    let stops = writes_nothing(rt.alloc());
-    holds(&rt, writes && stops);
-}
-
 /// 60,000 words of 8 bytes and a space each.
 fn put_words(out: &mut Counting) -> Result<(), Failed> {
     let mut writer = Writer::make(out);
@@ -102,14 +103,6 @@ fn put_words(out: &mut Counting) -> Result<(), Failed> {
         writer.put(b" ");
     }
     writer.end()
-}
-
-/// 60,000 words of 8 bytes and as many spaces go out in 66 writes.
-#[test]
-fn writes_in_pieces(rt: HostRuntime) {
-    let mut out = Counting::make();
-    let is_put = put_words(&mut out).is_ok();
-    holds(&rt, is_put && out.bytes == 540_000 && out.writes == 66);
 }
 
 /// A longer text than a piece.
@@ -124,28 +117,38 @@ fn put_all(out: &mut MemSink, texts: &[&[u8]]) -> Result<(), Failed> {
     writer.end()
 }
 
-/// Whether putting these texts ends so where such calls fail: with a success or not, and so many bytes of the long text.
-fn ends_so(
-    alloc: Global,
-    fails: &[u64],
-    texts: &[&[u8]],
-    expected: (Result<(), Failed>, usize),
-) -> bool {
-    let Ok(mut out) = MemSink::make(alloc, 40_000, fails) else {
-        return false;
-    };
+/// How putting these texts ends where such calls fail, and how many bytes of the long text were written. None without memory, or where
+/// others were.
+fn ends(alloc: Global, fails: &[u64], texts: &[&[u8]]) -> Option<(Result<(), Failed>, usize)> {
+    let mut out = MemSink::make(alloc, 40_000, fails).ok()?;
     let ended = put_all(&mut out, texts);
-    let is_so = ended == expected.0 && Some(out.taken()) == LONG.get(..expected.1);
+    let length = out.taken().len();
+    let is_front = Some(out.taken()) == LONG.get(..length);
     drop(out);
-    is_so
+    if is_front {
+        Some((ended, length))
+    } else {
+        None
+    }
 }
 
-/// A longer text than a piece goes out whole, and after a failed write nothing does.
+/// A text goes out whole, and once: what there is no room for, and what stands behind a failed write, doesn't. 60,000 words of 8 bytes and as
+/// many spaces go out in 66 writes.
 #[test]
-fn stops_after_a_failed_piece(rt: HostRuntime) {
-    let stops = ends_so(rt.alloc(), &[2], &[LONG, b"y"], (Err(Failed), PIECE));
-    let is_whole = ends_so(rt.alloc(), &[], &[LONG], (Ok(()), 20_000));
-    holds(&rt, stops && is_whole);
+fn texts_are_written(rt: HostRuntime) {
+    let alloc = rt.alloc();
+    assert_eq!(rt;
+        [writes_until_full(alloc), writes_nothing(alloc)],
+        [true, true]
+    );
+    let mut out = Counting::make();
+    let is_put = put_words(&mut out).is_ok();
+    assert_eq!(rt; (is_put, out.bytes, out.writes), (true, 540_000, 66));
+    assert_eq!(rt;
+        ends(alloc, &[2], &[LONG, b"y"]),
+        Some((Err(Failed), PIECE))
+    );
+    assert_eq!(rt; ends(alloc, &[], &[LONG]), Some((Ok(()), 20_000)));
 }
 
 /// A reader and writer of one byte a call, whose every other call is interrupted, and which fails from
@@ -194,25 +197,20 @@ impl Write for Halting {
     }
 }
 
-/// Whether writing the text ends so; closes the stream.
-fn write_ends<W: Write + Drop>(writer: W, expected: Result<(), Failed>) -> bool {
+/// How writing the text ends; closes the stream.
+fn written_to<W: Write + Drop>(writer: W) -> Result<(), Failed> {
     let mut out = StdSink::make(writer);
     let wrote = write_text(&mut out, TEXT);
     drop(out);
-    wrote == expected
+    wrote
 }
 
-/// Whether reading at most so many bytes ends so; closes the stream.
-fn read_ends<R: Read + Drop>(
-    alloc: Global,
-    reader: R,
-    limit: u64,
-    expected: Option<ReadError>,
-) -> bool {
+/// What comes of reading at most so many bytes; closes the stream.
+fn read_of<R: Read + Drop>(alloc: Global, reader: R, limit: u64) -> Came {
     let mut input = StdIntake::make(reader);
     let read = read_text(alloc, &mut input, limit);
     drop(input);
-    is_read(read, expected)
+    came_of(read)
 }
 
 /// A stream of which so many calls are good.
@@ -220,19 +218,24 @@ fn stream_with(good: u32) -> Halting {
     Halting { calls: 0, good }
 }
 
+/// Texts are read in pieces, up to a limit, and on after interruptions.
 #[test]
-fn goes_on_after_interruptions(rt: HostRuntime) {
-    let reads = read_ends(rt.alloc(), stream_with(100), 9, Some(ReadError::Long))
-        && read_ends(rt.alloc(), stream_with(6), 9, Some(ReadError::Failed));
-    let writes = write_ends(stream_with(100), Ok(())) && write_ends(stream_with(6), Err(Failed));
-    holds(&rt, reads && writes);
+fn texts_are_read(rt: HostRuntime) {
+    let alloc = rt.alloc();
+    assert_eq!(rt; wrong_rows(&rt, alloc, READS, read_in_pieces), 0);
+    let long = Came::Fault(ReadError::Long);
+    let failed = Came::Fault(ReadError::Failed);
+    assert_eq!(rt; read_of(alloc, stream_with(100), 9), long);
+    assert_eq!(rt; read_of(alloc, stream_with(6), 9), failed);
+    assert_eq!(rt; written_to(stream_with(100)), Ok(()));
+    assert_eq!(rt; written_to(stream_with(6)), Err(Failed));
 }
 
 #[test]
 fn moves_through_a_pipe(rt: HostRuntime) -> Result<(), Fail> {
     let (reader, writer) = io::pipe(&rt)?;
-    let is_written = write_ends(writer, Ok(()));
-    let is_read = read_ends(rt.alloc(), reader, 100, None);
-    holds(&rt, is_written && is_read);
+    let written = written_to(writer);
+    let read = read_of(rt.alloc(), reader, 100);
+    assert_eq!(rt; (written, read), (Ok(()), Came::TheText));
     Ok(())
 }

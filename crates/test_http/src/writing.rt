@@ -1,8 +1,8 @@
 //! Requests and replies, to the byte.
 
-use super::{Parts, holds, joined, none_is_wrong};
 use http::StatusCode;
 use std::alloc::Global;
+use test_support::wrong_texts;
 use tk_io::MemLink;
 use wire::{Kind, Place, WireFault, write_reply, write_request};
 
@@ -21,217 +21,107 @@ pub(crate) fn place(alloc: Global, host: &str, port: u16, path: &str) -> Option<
     Some(Place { host, port, path })
 }
 
-/// A host, a port, a path and what follows it, with the request that is written.
-type Request = (&'static str, u16, &'static str, &'static [u8], Parts);
+/// A host, a port, a path and what follows it.
+type Request = (&'static str, u16, &'static str, &'static [u8]);
 
-/// Requests.
-static REQUESTS: &[Request] = &[
+static REQUESTS: &[(&str, Request, &str)] = &[
     (
-        "127.0.0.1",
-        8080,
-        "/lists/A",
-        b"/size",
-        &[
-            b"GET /lists/A/size HTTP/1.1\r\n",
-            b"Host: 127.0.0.1:8080\r\n",
-            b"Connection: close\r\n\r\n",
-        ],
+        "an address",
+        ("127.0.0.1", 8080, "/lists/A", b"/size"),
+        "GET /lists/A/size HTTP/1.1\r\nHost: 127.0.0.1:8080\r\nConnection: close\r\n\r\n",
     ),
     (
-        "h",
-        80,
-        "/a.b_c-d",
-        b"/page?from=0&count=10000",
-        &[
-            b"GET /a.b_c-d/page?from=0&count=10000 HTTP/1.1\r\n",
-            b"Host: h:80\r\n",
-            b"Connection: close\r\n\r\n",
-        ],
+        "a short name",
+        ("h", 80, "/a.b_c-d", b"/page?from=0&count=10000"),
+        "GET /a.b_c-d/page?from=0&count=10000 HTTP/1.1\r\nHost: h:80\r\nConnection: close\r\n\r\n",
     ),
     (
-        "example.org",
-        65535,
-        "/x",
-        b"/grade?object=4294967295",
-        &[
-            b"GET /x/grade?object=4294967295 HTTP/1.1\r\n",
-            b"Host: example.org:65535\r\n",
-            b"Connection: close\r\n\r\n",
-        ],
+        "the greatest numbers",
+        ("example.org", 65535, "/x", b"/grade?object=4294967295"),
+        "GET /x/grade?object=4294967295 HTTP/1.1\r\nHost: example.org:65535\r\nConnection: close\r\n\r\n",
     ),
 ];
 
-/// Whether a link took these parts.
-pub(crate) fn took(alloc: Global, link: &MemLink, parts: &[&[u8]]) -> bool {
-    let Some(text) = joined(alloc, parts) else {
-        return false;
+/// What a link took, or None where the call failed.
+fn taken(alloc: Global, link: MemLink, is_whole: bool) -> Option<Vec<u8>> {
+    let text = if is_whole {
+        Vec::from_slice(alloc, link.taken()).ok()
+    } else {
+        None
     };
-    let is_so = link.taken() == text.as_slice();
-    drop(text);
-    is_so
-}
-
-/// Whether a request to a place is written as these parts.
-fn is_request(alloc: Global, place: &Place, tail: &[u8], parts: &[&[u8]]) -> bool {
-    let Some(mut link) = sink(alloc, 1_000, &[]) else {
-        return false;
-    };
-    let is_so = write_request(&mut link, place, tail).is_ok() && took(alloc, &link, parts);
     drop(link);
-    is_so
+    text
 }
 
-/// Whether a request is written as it is to be.
-fn is_written(alloc: Global, request: &Request) -> bool {
-    let (host, port, path, tail, parts) = request;
-    let Some(place) = place(alloc, host, *port, path) else {
-        return false;
+/// What is written of a request.
+fn written_request(alloc: Global, request: &Request) -> Option<Vec<u8>> {
+    let (host, port, path, tail) = request;
+    let place = place(alloc, host, *port, path)?;
+    let Some(mut link) = sink(alloc, 1_000, &[]) else {
+        drop(place);
+        return None;
     };
-    let is_so = is_request(alloc, &place, tail, parts);
+    let is_whole = write_request(&mut link, &place, *tail).is_ok();
     drop(place);
-    is_so
+    taken(alloc, link, is_whole)
 }
 
-/// The place of the first request that is written otherwise.
-fn first_other(alloc: Global) -> Option<usize> {
-    for (place, request) in REQUESTS.iter().enumerate() {
-        if !is_written(alloc, request) {
-            return Some(place);
-        }
-    }
-    None
-}
+/// A status, whether the body is JSON, and the body.
+type Reply = (u16, bool, Option<&'static [u8]>);
 
-#[test]
-fn writes_requests(rt: HostRuntime) {
-    none_is_wrong(&rt, first_other(rt.alloc()));
-}
+/// A body of 20,000 bytes.
+const LONG: &[u8] = &[b'a'; 20_000];
 
-/// A status, whether the body is JSON, and the body, with the reply that is written.
-type Written = (u16, bool, Option<&'static [u8]>, Parts);
-
-/// Replies.
-static REPLIES: &[Written] = &[
+static REPLIES: &[(&str, Reply, &str)] = &[
     (
-        200,
-        true,
-        Some(b"{\"count\":3}"),
-        &[
-            b"HTTP/1.1 200 OK\r\n",
-            b"Content-Type: application/json\r\n",
-            b"Content-Length: 11\r\n",
-            b"Connection: close\r\n\r\n",
-            b"{\"count\":3}",
-        ],
+        "JSON",
+        (200, true, Some(b"{\"count\":3}")),
+        "HTTP/1.1 200 OK\r\nContent-Type: application/json\r\nContent-Length: 11\r\nConnection: close\r\n\r\n{\"count\":3}",
     ),
     (
-        200,
-        false,
-        Some(b"refused 1 Syntax 0\n"),
-        &[
-            b"HTTP/1.1 200 OK\r\n",
-            b"Content-Type: text/plain\r\n",
-            b"Content-Length: 19\r\n",
-            b"Connection: close\r\n\r\n",
-            b"refused 1 Syntax 0\n",
-        ],
+        "a refused line",
+        (200, false, Some(b"refused 1 Syntax 0\n")),
+        "HTTP/1.1 200 OK\r\nContent-Type: text/plain\r\nContent-Length: 19\r\nConnection: close\r\n\r\nrefused 1 Syntax 0\n",
     ),
     (
-        200,
-        false,
-        Some(b""),
-        &[
-            b"HTTP/1.1 200 OK\r\n",
-            b"Content-Type: text/plain\r\n",
-            b"Content-Length: 0\r\n",
-            b"Connection: close\r\n\r\n",
-        ],
+        "an empty text",
+        (200, false, Some(b"")),
+        "HTTP/1.1 200 OK\r\nContent-Type: text/plain\r\nContent-Length: 0\r\nConnection: close\r\n\r\n",
     ),
     (
-        400,
-        false,
-        Some(b"Bad Request\n"),
-        &[
-            b"HTTP/1.1 400 Bad Request\r\n",
-            b"Content-Type: text/plain\r\n",
-            b"Content-Length: 12\r\n",
-            b"Connection: close\r\n\r\n",
-            b"Bad Request\n",
-        ],
+        "400",
+        (400, false, Some(b"Bad Request\n")),
+        "HTTP/1.1 400 Bad Request\r\nContent-Type: text/plain\r\nContent-Length: 12\r\nConnection: close\r\n\r\nBad Request\n",
     ),
     (
-        404,
-        false,
-        Some(b"Not Found\n"),
-        &[
-            b"HTTP/1.1 404 Not Found\r\n",
-            b"Content-Type: text/plain\r\n",
-            b"Content-Length: 10\r\n",
-            b"Connection: close\r\n\r\n",
-            b"Not Found\n",
-        ],
-    ),
-    // The status 405 says which method is allowed.
-    (
-        405,
-        false,
-        Some(b"Method Not Allowed\n"),
-        &[
-            b"HTTP/1.1 405 Method Not Allowed\r\n",
-            b"Content-Type: text/plain\r\n",
-            b"Allow: GET\r\n",
-            b"Content-Length: 19\r\n",
-            b"Connection: close\r\n\r\n",
-            b"Method Not Allowed\n",
-        ],
-    ),
-    // Without a body no length is said.
-    (
-        405,
-        false,
-        None,
-        &[
-            b"HTTP/1.1 405 Method Not Allowed\r\n",
-            b"Content-Type: text/plain\r\n",
-            b"Allow: GET\r\n",
-            b"Connection: close\r\n\r\n",
-        ],
+        "404",
+        (404, false, Some(b"Not Found\n")),
+        "HTTP/1.1 404 Not Found\r\nContent-Type: text/plain\r\nContent-Length: 10\r\nConnection: close\r\n\r\nNot Found\n",
     ),
     (
-        431,
-        false,
-        Some(b"Request Header Fields Too Large\n"),
-        &[
-            b"HTTP/1.1 431 Request Header Fields Too Large\r\n",
-            b"Content-Type: text/plain\r\n",
-            b"Content-Length: 32\r\n",
-            b"Connection: close\r\n\r\n",
-            b"Request Header Fields Too Large\n",
-        ],
+        "405 says which method is allowed",
+        (405, false, Some(b"Method Not Allowed\n")),
+        "HTTP/1.1 405 Method Not Allowed\r\nContent-Type: text/plain\r\nAllow: GET\r\nContent-Length: 19\r\nConnection: close\r\n\r\nMethod Not Allowed\n",
     ),
     (
-        500,
-        false,
-        Some(b"Internal Server Error\n"),
-        &[
-            b"HTTP/1.1 500 Internal Server Error\r\n",
-            b"Content-Type: text/plain\r\n",
-            b"Content-Length: 22\r\n",
-            b"Connection: close\r\n\r\n",
-            b"Internal Server Error\n",
-        ],
+        "405 without a body, whose length is then not said",
+        (405, false, None),
+        "HTTP/1.1 405 Method Not Allowed\r\nContent-Type: text/plain\r\nAllow: GET\r\nConnection: close\r\n\r\n",
     ),
     (
-        503,
-        false,
-        Some(b"Service Unavailable\n"),
-        &[
-            b"HTTP/1.1 503 Service Unavailable\r\n",
-            b"Content-Type: text/plain\r\n",
-            b"Content-Length: 20\r\n",
-            b"Connection: close\r\n\r\n",
-            b"Service Unavailable\n",
-        ],
+        "431",
+        (431, false, Some(b"Request Header Fields Too Large\n")),
+        "HTTP/1.1 431 Request Header Fields Too Large\r\nContent-Type: text/plain\r\nContent-Length: 32\r\nConnection: close\r\n\r\nRequest Header Fields Too Large\n",
+    ),
+    (
+        "500",
+        (500, false, Some(b"Internal Server Error\n")),
+        "HTTP/1.1 500 Internal Server Error\r\nContent-Type: text/plain\r\nContent-Length: 22\r\nConnection: close\r\n\r\nInternal Server Error\n",
+    ),
+    (
+        "503",
+        (503, false, Some(b"Service Unavailable\n")),
+        "HTTP/1.1 503 Service Unavailable\r\nContent-Type: text/plain\r\nContent-Length: 20\r\nConnection: close\r\n\r\nService Unavailable\n",
     ),
 ];
 
@@ -249,58 +139,32 @@ pub(crate) fn reply(
     }
 }
 
-/// Whether a reply is written as it is to be.
-fn is_reply(alloc: Global, written: &Written) -> bool {
-    let (status, is_json, body, parts) = written;
-    let Some(mut link) = sink(alloc, 1_000, &[]) else {
-        return false;
-    };
-    let is_so = reply(&mut link, *status, *is_json, *body).is_ok() && took(alloc, &link, parts);
-    drop(link);
-    is_so
+/// What is written of a reply.
+fn written_reply(alloc: Global, given: &Reply) -> Option<Vec<u8>> {
+    let (status, is_json, body) = given;
+    let mut link = sink(alloc, 100_000, &[])?;
+    let is_whole = reply(&mut link, *status, *is_json, *body).is_ok();
+    taken(alloc, link, is_whole)
 }
 
-/// The place of the first reply that is written otherwise.
-fn first_other_reply(alloc: Global) -> Option<usize> {
-    for (place, written) in REPLIES.iter().enumerate() {
-        if !is_reply(alloc, written) {
-            return Some(place);
-        }
-    }
-    None
+/// The head of a reply with the long body.
+const LONG_HEAD: &[u8] =
+    b"HTTP/1.1 200 OK\r\nContent-Type: application/json\r\nContent-Length: 20000\r\nConnection: close\r\n\r\n";
+
+/// How many bytes are written behind that head, all of them those of the body.
+fn long_body(alloc: Global) -> Option<usize> {
+    let text = written_reply(alloc, &(200, true, Some(LONG)))?;
+    let length = match text.as_slice().strip_prefix(LONG_HEAD) {
+        Some(body) if body == LONG => Some(body.len()),
+        _ => None,
+    };
+    drop(text);
+    length
 }
 
 #[test]
-fn writes_replies(rt: HostRuntime) {
-    none_is_wrong(&rt, first_other_reply(rt.alloc()));
-}
-
-/// Whether a body of 20,000 bytes is written behind its head.
-fn is_long_reply(alloc: Global) -> bool {
-    let mut body = Vec::new(alloc);
-    let Ok(()) = body.resize(20_000, b'a') else {
-        drop(body);
-        return false;
-    };
-    let is_so = is_long_body(alloc, body.as_slice());
-    drop(body);
-    is_so
-}
-
-/// Whether a long body is written behind its head.
-fn is_long_body(alloc: Global, body: &[u8]) -> bool {
-    let Some(mut link) = sink(alloc, 100_000, &[]) else {
-        return false;
-    };
-    let head =
-        b"HTTP/1.1 200 OK\r\nContent-Type: application/json\r\nContent-Length: 20000\r\nConnection: close\r\n\r\n";
-    let is_so = reply(&mut link, 200, true, Some(body)).is_ok()
-        && took(alloc, &link, &[head, body]);
-    drop(link);
-    is_so
-}
-
-#[test]
-fn writes_a_long_reply(rt: HostRuntime) {
-    holds(&rt, is_long_reply(rt.alloc()));
+fn writes_messages(rt: HostRuntime) {
+    assert_eq!(rt; wrong_texts(&rt, rt.alloc(), REQUESTS, written_request), 0);
+    assert_eq!(rt; wrong_texts(&rt, rt.alloc(), REPLIES, written_reply), 0);
+    assert_eq!(rt; long_body(rt.alloc()), Some(20_000));
 }

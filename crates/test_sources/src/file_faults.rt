@@ -1,10 +1,9 @@
 //! The shelf of files over a file in memory, whose reads fail in turn.
 
-use super::none_is_wrong;
 use file_source::{FileShelf, FileTree};
-use source_api::{FailKind, Shelf, Trouble};
+use source_api::{FailKind, Shelf, Source, Trouble};
 use std::alloc::Global;
-use test_mem_source::{Step, first_wrong};
+use test_support::wrong_rows;
 use tk_io::MemIntake;
 
 /// One list file, at the place `a`: it is read in pieces of 5 bytes, and the reads of these numbers fail.
@@ -33,87 +32,81 @@ impl FileTree for OneFile {
     }
 }
 
-/// What its source answers.
-const STEPS: &[Step] = &[
-    Step::Size(2),
-    Step::Page(0, 5, Ok(&[(1, 900), (2, 800)])),
-    Step::Grade(2, Ok(Some(800))),
+/// How many bytes the text of a place has, and how many rows its source.
+type Came = (Result<usize, Trouble>, Result<usize, Trouble>);
+
+const WHOLE: Came = (Ok(12), Ok(2));
+
+const FAILS: Came = (
+    Err(Trouble::Fail(FailKind::Failed)),
+    Err(Trouble::Fail(FailKind::Failed)),
+);
+
+/// A label, the numbers of the reads that fail and the place, and what comes.
+type Read = (&'static str, (&'static [u64], &'static str), Came);
+
+static READS: &[Read] = &[
+    ("no read fails", (&[], "a"), WHOLE),
+    ("another place", (&[], "b"), FAILS),
+    ("the first read fails", (&[1], "a"), FAILS),
+    ("the second fails", (&[2], "a"), FAILS),
+    ("the third fails", (&[3], "a"), FAILS),
+    (
+        "the fourth fails, which would find the end",
+        (&[4], "a"),
+        FAILS,
+    ),
+    ("the fifth would fail", (&[5], "a"), WHOLE),
 ];
 
-/// The numbers of the reads that fail, the place, and whether it has a text and a source. The fourth read is the one that finds the end.
-type Read = (&'static [u64], &'static str, bool);
-
-static READS: [Read; 7] = [
-    (&[], "a", true),
-    (&[], "b", false),
-    (&[1], "a", false),
-    (&[2], "a", false),
-    (&[3], "a", false),
-    (&[4], "a", false),
-    (&[5], "a", true),
-];
-
-/// Whether the shelf gives the whole text, or fails to.
-fn gives_text<F: FileTree>(
+/// How many bytes the text of a place has.
+fn text_at<F: FileTree>(
     alloc: Global,
     shelf: &mut FileShelf<'_, F>,
     place: &str,
-    is_there: bool,
-) -> bool {
+) -> Result<usize, Trouble> {
     match shelf.text(alloc, place) {
-        Ok(text) => is_there && text.as_slice() == TEXT,
-        Err(trouble) => !is_there && trouble == Trouble::Fail(FailKind::Failed),
+        Ok(text) => Ok(text.len()),
+        Err(trouble) => Err(trouble),
     }
 }
 
-/// Whether the shelf gives the whole source, or fails to.
-fn gives_source<F: FileTree>(
+/// How many rows the source of a place has.
+fn rows_at<F: FileTree>(
     alloc: Global,
     shelf: &mut FileShelf<'_, F>,
     place: &str,
-    is_there: bool,
-) -> bool {
-    match shelf.take(alloc, place) {
-        Ok(mut source) => {
-            let wrong = first_wrong(alloc, &mut source, STEPS);
-            shelf.put_back(place, source);
-            is_there && wrong.is_none()
-        }
-        Err(trouble) => !is_there && trouble == Trouble::Fail(FailKind::Failed),
-    }
+) -> Result<usize, Trouble> {
+    let mut source = shelf.take(alloc, place)?;
+    let rows = match source.page(alloc, 0, 5) {
+        Ok(page) => Ok(page.len()),
+        Err(trouble) => Err(trouble),
+    };
+    shelf.put_back(place, source);
+    rows
 }
 
-/// Whether a shelf of these files has a text and a source at the place.
-fn gives_both<F: FileTree>(alloc: Global, files: &F, place: &str, is_there: bool) -> bool {
+/// What comes of a place of a shelf over these files.
+fn came_over<F: FileTree>(alloc: Global, files: &F, place: &str) -> Came {
     let mut shelf = FileShelf::make(alloc, files);
-    let is_so = gives_text(alloc, &mut shelf, place, is_there)
-        && gives_source(alloc, &mut shelf, place, is_there);
+    let text = text_at(alloc, &mut shelf, place);
+    let rows = rows_at(alloc, &mut shelf, place);
     drop(shelf);
-    is_so
+    (text, rows)
 }
 
-/// Whether a shelf over the file answers so.
-fn answers_so(alloc: Global, read: &Read) -> bool {
-    let (fails, place, is_there) = read;
+/// What comes of the place over a file of which these reads fail.
+fn came_of(alloc: Global, given: &(&'static [u64], &'static str)) -> Came {
+    let (fails, place) = *given;
     let file = OneFile {
         alloc,
         text: TEXT,
         fails,
     };
-    gives_both(alloc, &file, place, *is_there)
-}
-
-/// The number of the first row that is answered otherwise.
-fn first_other(alloc: Global, reads: &[Read]) -> Option<usize> {
-    for (number, read) in reads.iter().enumerate() {
-        if !answers_so(alloc, read) {
-            return Some(number);
-        }
-    }
-    None
+    came_over(alloc, &file, place)
 }
 
 #[test]
 fn gives_a_whole_file_or_none(rt: HostRuntime) {
-    none_is_wrong(&rt, first_other(rt.alloc(), &READS));
+    assert_eq!(rt; wrong_rows(&rt, rt.alloc(), READS, came_of), 0);
 }

@@ -1,8 +1,7 @@
-//! Accesses and items in one line each: functions, and macros for constants, in which no call may stand.
+//! Accesses in one line each: a function, and macros for constants, in which no call may stand.
 
 ghost use Rattle.std.specs.Prelude.{◌≡◌};
 
-use ranked_list::Item;
 use topk_theory::Access;
 
 /// A sorted access.
@@ -14,24 +13,6 @@ pub const fn sorted(list: u8, object: u32, grade: u32) -> Access
         object,
         grade,
     }
-}
-
-/// A random access.
-pub const fn random(list: u8, object: u32, grade: u32) -> Access
-    ensures { result ≡ Access.Random list object grade }
-{
-    Access::Random {
-        list,
-        object,
-        grade,
-    }
-}
-
-/// An object of an answer with its bounds.
-pub const fn item(object: u32, low: u64, high: u64) -> Item
-    ensures { result ≡ record { object = object; low = low; high = high } }
-{
-    Item { object, low, high }
 }
 
 /// A sorted access in a constant.
@@ -54,18 +35,6 @@ macro_rules! random_row {
             list: $list,
             object: $object,
             grade: $grade,
-        }
-    };
-}
-
-/// An object of an answer with its bounds, in a constant.
-#[macro_export]
-macro_rules! item_row {
-    ($object:expr, $low:expr, $high:expr) => {
-        $crate::Item {
-            object: $object,
-            low: $low,
-            high: $high,
         }
     };
 }

@@ -1,19 +1,16 @@
-//! What the tests of several crates are made of: the runner of rows, lists, accesses, words and numbers.
+//! What the tests of several crates are made of: the runner of rows, accesses, words and numbers.
 #![tactic(auto)]
 
 mod accesses;
 mod example;
-mod lists;
 mod numbers;
 mod rows;
 mod streams;
 mod words;
 
-pub use accesses::{item, random, sorted};
+pub use accesses::sorted;
 pub use example::{FIRST_ACCESSES, FIRST_ITEM, FIRST_QUERY, FIRST_TEXT};
-pub use lists::{Lists, list_of, page_of, table_of};
 pub use numbers::{Numbers, shuffled};
-pub use ranked_list::Item;
 pub use rows::{wrong_rows, wrong_texts};
 use std::alloc::{AllocError, AllocFailed};
 pub use streams::Counting;

@@ -3,6 +3,14 @@
 use std::fmt::Debug;
 use std::str::from_utf8;
 
+/// A row whose label is what is given, as it stands there.
+#[macro_export]
+macro_rules! row {
+    ($given:expr, $wanted:expr) => {
+        (stringify!($given), $given, $wanted)
+    };
+}
+
 /// How many rows, which are a label, what is given and what is wanted, come to something else than what is wanted. `come` is given `with` beside
 /// what a row gives: what allocates, and for threads the runtime.
 pub fn wrong_rows<R: Eprint, C: Copy, G, W: PartialEq + Debug + Drop, F: Fn(C, &G) -> W>(
