@@ -1,6 +1,6 @@
 //! Requests to the server over a link in memory, and their replies. One thread serves and fetches.
 
-ghost use Rattle.std.specs.Prelude.{◌≡◌, ◌<◌, ◌^◌, All, Some, length, IfSome};
+ghost use Rattle.std.specs.Prelude.{◌≡◌, ◌<◌, ◌^◌, All, length, IfSome};
 ghost use Rattle.source_pool.specs.Passes.{IsIdleOf};
 ghost use Rattle.fetcher.specs.Metering.{nothing};
 ghost use Rattle.workers.specs.Sides.{HasFeeder};
@@ -109,8 +109,9 @@ fn answer(
 }
 
 /// The slot of a source with its feeder, of which nothing was fetched.
-fn slot_of(source: MemSource, feeder: Feeder) -> Slot<MemSource>
-    ensures feeder { result.feeder ≡ Some feeder }
+fn slot_of(pool: &Pool, source: MemSource, feeder: Feeder) -> Slot<MemSource>
+    requires { IsIdleOf pool.now feeder }
+    ensures feeder { HasFeeder pool.now result.feeder }
     ensures fresh { result.fetched ≡ nothing }
 {
     Slot {
@@ -135,7 +136,7 @@ fn two_slots(
 {
     let (first, second) = sources;
     let (its, other) = feeders;
-    let Ok(slots) = vec![in alloc; slot_of(first, its), slot_of(second, other)] else {
+    let Ok(slots) = vec![in alloc; slot_of(pool, first, its), slot_of(pool, second, other)] else {
         return None;
     };
     Some(slots)
