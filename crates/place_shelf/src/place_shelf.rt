@@ -1,9 +1,10 @@
 //! A shelf of files and of lists that hosts serve.
 
-ghost use Rattle.std.specs.Prelude.{◌≡◌, [], Some, true, ℕ, List, IfErr, IfOk, IfSome, OnErr, OnOk};
+ghost use Rattle.std.specs.Prelude.{◌≡◌, [], None, Some, true, ℕ, List, IfErr, IfOk, IfSome, OnErr, OnOk};
 ghost use Rattle.std.specs.declared.result.Result.TheVariants.{Err};
 ghost use Rattle.source_api.specs.declared.source.FailKind.TheVariants.{Memory};
 ghost use Rattle.source_api.specs.declared.source.Trouble.TheVariants.{Fail};
+ghost use Rattle.source_api.specs.Calls.{IsUncalled};
 ghost use Rattle.source_api.specs.Counting.{no_counts};
 ghost use Rattle.source_api.specs.Places.{IsTaking, SameAtEach, SameElsewhere, CountsTakes, HasTakeCause, counts_at, counts_taken, is_known};
 ghost use Rattle.place_shelf.specs.Shelved.{list_at, version_at};
@@ -94,6 +95,7 @@ where
         ensures cause { IfErr result (HasTakeCause (counts_at self.old.ledger place.now) (counts_at self.new.ledger place.now)) }
         ensures fresh { IfOk result (λ item. counts_of M.D.faults item ≡ no_counts) }
         ensures unasked { IfOk result (λ item. version_of item ≡ 0) }
+        ensures uncalled { IfOk result (λ _. IsUncalled None) }
         ensures version { IfOk result (λ item. IfSome (version_at place.now) (λ told. states_of item ≡ Some told)) }
         ensures list { IfOk result (λ item. IfSome (list_at (F.contents self.old.files) place.now) (λ told. list_of item ≡ Some told)) }
         ensures knows { OnOk result (is_known self.new.ledger place.now ≡ true) }
