@@ -3,6 +3,7 @@
 # make test     all proofs and tests, the program run as users run it, and the library where `make lib` has built it
 # make run      `make topk`, and the answers to the hotels' query lines
 # make lib      the proved library, at c/out; it needs a C compiler
+# make wheel    a wheel of the Python package, at c/out; with the library where it is built
 # make install  the program, its manual page and completions, and the library where it is built; `make uninstall` takes them away
 # For contributors: make wrong-bodies, make fail-alloc, make bench, make threads.
 
@@ -53,11 +54,13 @@ lib:
 	$(AR) r c/out/libtopk.a c/out/heap.o
 	$(CC) -shared -o c/out/libtopk.so -Wl,--whole-archive c/out/libtopk.a -Wl,--no-whole-archive
 	cp c/out/libtopk.so python/topk/libtopk.so
-	@if python3 -c 'import setuptools, wheel, pip' 2> /dev/null; then $(MAKE) --no-print-directory wheel; \
-		else echo "no wheel is made: this python3 has no pip with setuptools and wheel"; fi
+	@if $(CAN_MAKE_WHEELS); then $(MAKE) --no-print-directory wheel; else echo "$(NO_WHEEL)"; fi
 
 # A wheel of the Python package for this machine, with the library where `make lib` has built it: c/out/topk-VERSION-py3-none-linux_x86_64.whl.
+CAN_MAKE_WHEELS = python3 -c 'import pip, setuptools, wheel' 2> /dev/null
+NO_WHEEL = no wheel is made: this python3 has no pip with setuptools and wheel
 wheel:
+	@$(CAN_MAKE_WHEELS) || { echo "$(NO_WHEEL)" >&2; exit 1; }
 	mkdir -p c/out
 	rm -rf python/build python/topk.egg-info
 	python3 -m pip wheel --no-index --no-deps --no-build-isolation --quiet --wheel-dir c/out ./python
