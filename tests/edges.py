@@ -134,20 +134,27 @@ def grades_of_file(program: str) -> str | None:
     return f"took {', '.join(f'{it:.1f}' for it in took)} s of the processor"
 
 
-def dial_gives_up(program: str) -> str | None:
-    """A host whose port takes no connection any more, and refuses none, isn't waited for longer than ten seconds, and
-    the other list is answered."""
-    with contextlib.ExitStack() as held, hosting(LISTS) as good:
+@contextlib.contextmanager
+def full_port(port: int = 0) -> Iterator[int]:
+    """A port that takes no connection any more, and refuses none."""
+    with contextlib.ExitStack() as held:
         full = held.enter_context(socket.socket())
-        full.bind(("127.0.0.1", 0))
+        full.setsockopt(socket.SOL_SOCKET, socket.SO_REUSEADDR, 1)
+        full.bind(("127.0.0.1", port))
         full.listen(0)
         for _ in range(8):
             waiting = held.enter_context(socket.socket())
             waiting.setblocking(False)
             waiting.connect_ex(full.getsockname())
+        yield full.getsockname()[1]
+
+
+def dial_gives_up(program: str) -> str | None:
+    """A host whose port takes no connection any more, and refuses none, isn't waited for longer than ten seconds, and
+    the other list is answered."""
+    with hosting(LISTS) as good, full_port() as full:
         began = time.monotonic()
-        done = run_at(program, {"A": full.getsockname()[1], "B": good.port},
-                      b"top 1 by A using nra\ntop 1 by B using nra\n")
+        done = run_at(program, {"A": full, "B": good.port}, b"top 1 by A using nra\ntop 1 by B using nra\n")
         took = time.monotonic() - began
     wanted = b"refused 1 NotOpened A\n" + worked_out(["top 1 by B using nra"], LISTS).replace(b"ate 1\n", b"ate 2\n")
     late = took < DIAL_SECONDS - 1 or took > 4 * DIAL_SECONDS

@@ -51,11 +51,14 @@ def over_http(server: str) -> str:
     return f"events {{}} http {{ server {{ listen 127.0.0.1:PORT; {server} }} }}"
 
 
-def from_example(first: int, second: int | None = None) -> str:
-    """examples/nginx.conf before servers at these ports, or before one alone, without TLS."""
-    text = re.sub(r"^ *ssl_.*\n", "", EXAMPLE.read_text(encoding="utf-8"), flags=re.MULTILINE)
-    places = {"listen 443 ssl;": "listen 127.0.0.1:PORT;", "127.0.0.1:8000": f"127.0.0.1:{first}",
-              "127.0.0.1:8001": f"127.0.0.1:{second or first}"}
+def from_example(first: int, second: int | None = None, certificates: str | None = None) -> str:
+    """examples/nginx.conf before servers at these ports, or before one alone, with the certificate of a folder, or
+    without TLS."""
+    text = EXAMPLE.read_text(encoding="utf-8")
+    if certificates is None:
+        text = re.sub(r"^ *ssl_.*\n", "", text.replace("443 ssl;", "443;"), flags=re.MULTILINE)
+    places = {"listen 443": "listen 127.0.0.1:PORT", "127.0.0.1:8000": f"127.0.0.1:{first}",
+              "127.0.0.1:8001": f"127.0.0.1:{second or first}", "/etc/ssl": certificates or ""}
     for there, here in places.items():
         text = text.replace(there, here)
     return text

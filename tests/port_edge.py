@@ -7,6 +7,7 @@ from __future__ import annotations
 
 import contextlib
 import functools
+import os
 import pathlib
 import re
 import socket
@@ -16,6 +17,7 @@ import threading
 import time
 from collections.abc import Callable, Iterator
 
+from edges import until
 from machine import SECONDS, free_port, needs, no_files, number_in, over_network, path_of
 from support import Listening, catalog, ended, received, run, write, write_lists
 
@@ -112,11 +114,12 @@ def gives_up(program: str, error: str) -> str | None:
 
 
 def few_descriptors(program: str) -> str | None:
-    """A server with 24 descriptors answers each of 100 clients that have all connected before the first one asks."""
-    count = 100
-    words = ["serve", "catalog.csv", "--workers", "2"]
-    with begun(program, words, count, files=24) as (port, process):
+    """A server whose 24 descriptors are all taken answers each of 100 clients that have all connected before the first
+    one asks."""
+    count, files = 100, 24
+    with begun(program, ["serve", "catalog.csv", "--workers", "16"], count, files=files) as (port, process):
         links = [connected(port) for _ in range(count)]
+        until(lambda: len(os.listdir(f"/proc/{process.pid}/fd")) == files)
         for link in links:
             link.sendall(b"GET /top?q= HTTP/1.1\r\nHost: h\r\n\r\n")
         replies = []

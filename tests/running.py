@@ -11,18 +11,20 @@ import itertools
 import os
 import re
 import socket
+import ssl
 import subprocess
+import sys
 import tempfile
 import threading
 import time
 from collections.abc import Callable, Iterator, Sequence
 
 from edges import until
-from machine import SECONDS, free_port, needs, no_files, number_in, over_network, path_of, peer
+from machine import SECONDS, free_port, needs, no_files, number_in, over_network, path_of, peer, settle
 from peers import from_example, nginx, said
 from servers import LINES, LONG, body, server_over, slow_clients
-from support import (DATA, MANY, REPOSITORY, begun, built, catalog, differs, first_difference, list_text, reply,
-                     request, run, server, wait_for, whole, worked_out, write)
+from support import (DATA, MANY, REPOSITORY, Place, begun, built, catalog, differs, first_difference, list_text,
+                     received, reply, request, run, server, wait_for, whole, worked_out, write)
 
 UNIT = REPOSITORY / "examples" / "topk-serve@.service"
 LIMITS = ("TasksMax", "LimitNOFILE")
@@ -60,13 +62,14 @@ def limits_of_unit(program: str) -> str | None:
 
 
 @contextlib.contextmanager
-def serving_at(program: str, port: int, command: str = "serve", *name: str) -> Iterator[None]:
-    """A server over the hotels at this port, or a node, until it is ended as systemd ends it."""
-    with subprocess.Popen([program, command, "catalog.csv", *name, "--at", str(port)], cwd=DATA,
-                          stdout=subprocess.DEVNULL, stderr=subprocess.DEVNULL) as process:
+def listening_at(program: str, port: int, *words: str, place: Place = DATA) -> Iterator[subprocess.Popen[bytes]]:
+    """A server over the catalog of the hotels, or of a place, at this port, or what else these words start there, until
+    it is ended as systemd ends it."""
+    command = [program, *(words or ("serve", "catalog.csv")), "--at", str(port)]
+    with subprocess.Popen(command, cwd=place, stdout=subprocess.PIPE, stderr=subprocess.PIPE) as process:
         try:
             wait_for(port, process)
-            yield
+            yield process
         finally:
             process.terminate()
 
@@ -90,13 +93,13 @@ def restart(program: str) -> str | None:
             concurrent.futures.ThreadPoolExecutor(8) as clients, contextlib.ExitStack() as held:
         running = {port: held.enter_context(contextlib.ExitStack()) for port in (one, other)}
         for port, process in running.items():
-            process.enter_context(serving_at(program, port))
+            process.enter_context(listening_at(program, port))
         told = [clients.submit(asking, front, over) for _ in range(8)]
         try:
             for port in (one, other) * 3:
                 running[port].close()
                 time.sleep(0.2)
-                running[port].enter_context(serving_at(program, port))
+                running[port].enter_context(listening_at(program, port))
                 time.sleep(0.2)
         finally:
             over.set()
@@ -143,29 +146,48 @@ def node_back(program: str) -> str | None:
         write(place, "catalog.csv", catalog({"price": at}))
         few, more = (f"top {count} by price using nra" for count in (1, 9))
         words = ("--page", "1", "--ahead", "0")
-        with serving_at(program, at, "node", "price"):
+        with listening_at(program, at, "node", "catalog.csv", "price"):
             port, _ = held.enter_context(server(program, MANY, *words, place=place))
             told = [reply(port, request(few))]
         told += [reply(port, request(line)) for line in (few, more)]
-        with serving_at(program, at, "node", "price"):
+        with listening_at(program, at, "node", "catalog.csv", "price"):
             told.append(reply(port, request(more)))
     wanted = [body(few), body(few), b"refused 1 Failed price\n", body(more)]
     return next(filter(None, map(first_difference, told, map(whole, wanted))), None)
 
 
+@contextlib.contextmanager
+def beside_slow(program: str, silent: int, dripping: int, proxied: bool) -> Iterator[tuple[int, list[socket.socket]]]:
+    """A server with four workers, or the nginx of examples/nginx.conf before it, which so many clients hold that send
+    nothing, and so many that send a byte now and then: its port, and the connections of these."""
+    with contextlib.ExitStack() as held:
+        front, _ = held.enter_context(server(program, MANY, "--workers", "4"))
+        if proxied:
+            front = held.enter_context(nginx(from_example(front)))
+        slow = held.enter_context(slow_clients(front, silent, silent=True))
+        yield front, slow + held.enter_context(slow_clients(front, dripping))
+
+
+def seconds_of(front: int) -> float:
+    """The seconds after which a request is answered."""
+    began = time.monotonic()
+    given = said(front, request(LINES[0]))
+    if not given.startswith(b"HTTP/1.1 200 OK\r\n") or not given.endswith(b"\r\n\r\n" + body(LINES[0])):
+        raise AssertionError(f"replied {given[:200]!r}")
+    return time.monotonic() - began
+
+
 def slow_behind_nginx(program: str) -> str | None:
-    """Behind the nginx of examples/nginx.conf 500 clients that send nothing, or a byte now and then, hold no worker: a
-    request beside them is answered within two seconds by a server with four workers."""
-    needs(no_files(4 * SLOW))
-    with server(program, MANY, "--workers", "4") as (port, _):
-        for silent in (True, False):
-            with nginx(from_example(port)) as front, slow_clients(front, SLOW, silent):
-                began = time.monotonic()
-                given = said(front, request(LINES[0]))
-                took = time.monotonic() - began
-            if not given.endswith(b"\r\n\r\n" + body(LINES[0])) or took > 2:
-                return f"{'silent' if silent else 'dripping'}: {given[:200]!r} after {took:.1f} s"
-    return None
+    """Behind the nginx of examples/nginx.conf 500 clients that send nothing and 500 that send a byte now and then hold
+    no worker: a request beside them is answered within two seconds by a server with four. The slow ones are broken off
+    after ten seconds."""
+    needs(no_files(8 * SLOW))
+    with beside_slow(program, SLOW, SLOW, proxied=True) as (front, slow):
+        took, answered = seconds_of(front), time.monotonic()
+        for link in slow:
+            received(link)
+        lasted = time.monotonic() - answered
+    return None if took < 2 and lasted < 15 else f"answered after {took:.1f} s, and broken off {lasted:.1f} s later"
 
 
 def limits_of_nginx(_program: str) -> str | None:
@@ -188,6 +210,24 @@ def limits_of_nginx(_program: str) -> str | None:
                 return f"the 17th of 127.0.0.{address} had {given!r}"
         given = asked(10).recv(100)
         return None if given.startswith(b"HTTP/1.1 503 ") else f"the 129th had {given!r}"
+
+
+def nginx_with_tls(program: str) -> str | None:
+    """nginx takes examples/nginx.conf as it stands, but for its ports and the folder of its certificate, and answers
+    over TLS."""
+    name, openssl = "topk.example", path_of("openssl")
+    with tempfile.TemporaryDirectory() as place, server(program) as (port, _):
+        files = ("-keyout", f"{place}/{name}.key", "-out", f"{place}/{name}.pem")
+        done = peer([openssl, "req", "-x509", "-newkey", "rsa:2048", "-nodes", "-days", "1", "-subj", f"/CN={name}",
+                     "-addext", f"subjectAltName=DNS:{name}", *files])
+        if done.returncode != 0:
+            raise AssertionError(f"openssl makes no certificate: {done.stderr[-200:]!r}")
+        with nginx(from_example(port, certificates=place)) as front, \
+                socket.create_connection(("127.0.0.1", front), SECONDS) as plain, \
+                ssl.create_default_context(cafile=files[3]).wrap_socket(plain, server_hostname=name) as link:
+            link.sendall(request(LINES[0]).replace(b"\r\n\r\n", b"\r\nConnection: close\r\n\r\n"))
+            given = received(link)
+    return first_difference(given.partition(b"\r\n\r\n")[2], body(LINES[0]))
 
 
 async def answer_to(port: int, asked: bytes) -> bytes:
@@ -251,5 +291,30 @@ def tests() -> Iterator[tuple[str, Callable[[str], str | None]]]:
     """Each test with its name."""
     yield "running_unit", unit
     for test in (limits_of_unit, restart, few_threads, replaced, node_back, slow_behind_nginx, limits_of_nginx,
-                 many_clients, memory):
+                 nginx_with_tls, many_clients, memory):
         yield f"running_{test.__name__}", over_network(test)
+
+
+def beside(program: str, count: int, silent: bool, proxied: bool) -> str:
+    """After how long a client is answered beside so many slow ones."""
+    with beside_slow(program, count * silent, count * (not silent), proxied) as (front, _):
+        try:
+            return f"{seconds_of(front):.2f} s"
+        except (TimeoutError, socket.timeout):
+            return f"more than {SECONDS:.0f} s"
+
+
+def main() -> None:
+    """Prints the table of slow clients of docs/RUNNING.md over a program. An answer is waited for as long as
+    TOPK_TEST_SECONDS says."""
+    settle()
+    program, kinds = sys.argv[1], list(itertools.product((4, 16, SLOW), (True, False)))
+    with concurrent.futures.ThreadPoolExecutor(len(kinds)) as at_once:
+        direct = list(at_once.map(lambda kind: beside(program, *kind, proxied=False), kinds))
+    for (count, silent), took in zip(kinds, direct):
+        what = f"{count} that send {'nothing' if silent else 'a byte now and then'}"
+        print(f"| {what} | {took} | {beside(program, count, silent, proxied=True)} |", flush=True)
+
+
+if __name__ == "__main__":
+    main()

@@ -105,9 +105,9 @@ def slow_clients(port: int, count: int, silent: bool = False) -> Iterator[list[s
     ended, links = threading.Event(), list[socket.socket]()
 
     def feed() -> None:
-        with contextlib.suppress(OSError):
-            while not silent and not ended.wait(0.5):
-                for link in links:
+        while not silent and not ended.wait(0.5):
+            for link in links:
+                with contextlib.suppress(OSError):  # This one was broken off.
                     link.sendall(b"a")
 
     with contextlib.ExitStack() as held:
