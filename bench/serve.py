@@ -27,26 +27,27 @@ HOTELS = HERE.parent / "crates" / "topk" / "data"
 
 
 class Rate(NamedTuple):
-    """What ab counts: requests a second, the milliseconds within which 99 of 100 were answered, from the connection on,
-    the bytes of a reply, and how many requests failed."""
+    """What ab counts: the requests that were answered, those of a second, the milliseconds within which 99 of 100 were
+    answered, from the connection on, the bytes of a reply, and how many requests failed."""
+    count: int
     a_second: float
     late: float
     size: int
     failed: int
 
 
-def by_ab(requests: int, clients: int, address: str) -> Rate:
-    """What ab counts of so many requests of so many clients at once, or of those of 20 seconds."""
+def by_ab(requests: int, clients: int, address: str, seconds: float = 20) -> Rate:
+    """What ab counts of so many requests of so many clients at once, or of those of so many seconds."""
     with tempfile.TemporaryDirectory() as place:
         table = pathlib.Path(place, "table")
-        count = ["-t", "20", "-n", str(max(requests, clients)), "-c", str(clients)]
+        count = ["-t", f"{seconds:.0f}", "-n", str(max(requests, clients)), "-c", str(clients)]
         words = ["ab", "-q", "-r", "-s", "200", *count, "-e", str(table), address]
         said = subprocess.run(words, capture_output=True, text=True, check=True).stdout
         late = float(re.findall(r"^99,(.*)$", table.read_text(encoding="ascii"), re.MULTILINE)[0])
     assert "Non-2xx" not in said, said
-    a_second, size, failed = (re.findall(rf"^{it}: +([0-9.]+)", said, re.MULTILINE)[0] for it in (
-        "Requests per second", "Document Length", "Failed requests"))
-    return Rate(float(a_second), late, int(size), int(failed))
+    whole, a_second, size, failed = (re.findall(rf"^{it}: +([0-9.]+)", said, re.MULTILINE)[0] for it in (
+        "Complete requests", "Requests per second", "Document Length", "Failed requests"))
+    return Rate(int(whole), float(a_second), late, int(size), int(failed))
 
 
 @contextlib.contextmanager

@@ -21,6 +21,7 @@ SMALLEST: dict[str, Sequence[str]] = {
     "bench": ("--lists", "2", "--counts", "20000", "--operators", "sum", "--algorithms", "ta", "--rounds", "1",
               "--bulk-lists", "2", "--queries", "2", "--workers", "1"),
     "bridges": ("topk", "60"), "delayed": ("topk", "20", "1"),
+    "endure": ("topk", "--seconds", "1", "--requests", "1100"),
     "fagin": ("--lists", "2", "--count", "50", "--rounds", "1"),
     "files": ("topk", "--counts", "50", "--lists", "2", "--queries", "2", "--workers", "1", "--rounds", "1"),
     "gate": ("--", "true"), "library": ("--lists", "2", "--count", "20", "--rounds", "1"), "nodes": ("topk", "100"),
@@ -32,7 +33,7 @@ SMALLEST: dict[str, Sequence[str]] = {
 # Files that a bench needs, and why it is skipped where one isn't there.
 BUILT = {"library": (REPOSITORY / "c" / "out" / "libtopk.so", "there is no c/out/libtopk.so"),
          "responses": (REPOSITORY / "crates" / "bench_http" / "out" / "bench_http", "there is no bench_http")}
-PEERS = {"fagin": "rustc", "serve": "ab"}
+PEERS = {"endure": "ab", "fagin": "rustc", "serve": "ab"}
 MODULES = {"package": "pandas"}
 
 
