@@ -45,8 +45,8 @@ def unit(program: str) -> str | None:
 
 
 def limits_of_unit(program: str) -> str | None:
-    """The unit has room for twice the threads and the descriptors of the greatest server, which has 64 lists and 32
-    workers, each with a client and another one waiting."""
+    """The greatest server, which has 64 lists and 32 workers, each with a client and another one waiting, has as many
+    threads and descriptors as the page says, and the unit has room for twice as many."""
     text, names = UNIT.read_text(encoding="utf-8"), [f"L{number}" for number in range(64)]
     threads_may, files_may = (int(re.findall(rf"^{it}=(\d+)$", text, re.MULTILINE)[0]) for it in LIMITS)
     with tempfile.TemporaryDirectory() as place:
@@ -57,8 +57,9 @@ def limits_of_unit(program: str) -> str | None:
             until(lambda: len(os.listdir(f"/proc/{process.pid}/fd")) > 64
                   and len(os.listdir(f"/proc/{process.pid}/task")) >= 32 + 64 + 1)
             files, threads = (len(os.listdir(f"/proc/{process.pid}/{it}")) for it in ("fd", "task"))
-    fits = threads == 32 + 64 + 1 and 2 * threads <= threads_may and 2 * files <= files_may
-    return None if fits else f"{threads} threads and {files} descriptors"
+    says = threads == 32 + 64 + 1 and files <= 2 * 32 + 10
+    fits = 2 * threads <= threads_may and 2 * files <= files_may
+    return None if says and fits else f"{threads} threads and {files} descriptors"
 
 
 @contextlib.contextmanager
