@@ -51,9 +51,10 @@ HERE = pathlib.Path(__file__).resolve().parent
 PROGRAM = HERE.parent / "crates" / "topk" / "out" / "topk"
 # What stands beside the tests and has none.
 NO_TESTS = {"run", "rows", "support", "machine"}
-# Tests that wait most of their time, for what comes only after half a minute or a whole one. They begin first, on
-# threads beside the others; who ends the run from outside waits for them too.
-WAITING = {"servers_given_up", "bad_hosts_server_over_silence", "bad_hosts_silent", "edges_dial_gives_up"}
+# Tests that wait most of their time, for what comes only after ten seconds or a minute. They begin first, on threads
+# beside the others; who ends the run from outside waits for them too.
+WAITING = {"servers_given_up", "bad_hosts_server_over_silence", "bad_hosts_silent", "edges_dial_gives_up",
+           "restarts_gone_host", "running_slow_behind_nginx"}
 # So many tests run at the same time, beside those that wait; fewer where there are fewer processors.
 AT_ONCE = 3
 # So many tests may hang before no other begins.
