@@ -57,7 +57,7 @@ def file_replaced(program: str) -> str | None:
     """A file that was renamed over a list's is answered once the list's node was started anew, with a greater version,
     and then the server. Before, each goes on with what it read, also where the file is away."""
     new = {"A": [(3, 950), (1, 900), (2, 800)]}
-    words, told = ("node", "catalog.csv", "A", "--version"), []
+    words, told = ("node", "catalog.csv", "A", "--version"), list[bytes]()
     with tempfile.TemporaryDirectory() as place, free_port() as at:
         write_lists(place, {"A": LISTS["A"]})
         write(place, "far.csv", catalog({"A": at}))
