@@ -26,7 +26,7 @@ def asked(what: str, requests: int, clients: int, seconds: float, served: tuple[
     """Prints the row of so many requests, or of those of so many seconds: how many failed."""
     port, process = served
     rate = by_ab(requests, clients, f"http://127.0.0.1:{port}/top?q={urllib.parse.quote(LINE)}", seconds)
-    row(what, clients, rate.count, rate.failed, f"{rate.a_second:.0f}", f"{rate.late:.1f}", f"{memory(process):.2f}")
+    row(what, clients, rate.answered, rate.failed, f"{rate.a_second:.0f}", f"{rate.late:.1f}", f"{memory(process):.2f}")
     return rate.failed
 
 

@@ -29,7 +29,7 @@ HOTELS = HERE.parent / "crates" / "topk" / "data"
 class Rate(NamedTuple):
     """What ab counts: the requests that were answered, those of a second, the milliseconds within which 99 of 100 were
     answered, from the connection on, the bytes of a reply, and how many requests failed."""
-    count: int
+    answered: int
     a_second: float
     late: float
     size: int

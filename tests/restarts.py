@@ -63,9 +63,12 @@ def file_replaced(program: str) -> str | None:
         write(place, "far.csv", catalog({"A": at}))
         for version in ("1", "2"):
             with listening_at(program, at, *words, version, place=place):
-                for happens in (lambda: os.remove(f"{place}/A.csv"), lambda: write(place, "new", list_text(new["A"]))):
+                for goes in (True, False):
                     with begun([program, "serve", "far.csv"], place) as (port, _):
-                        happens()
+                        if goes:
+                            os.remove(f"{place}/A.csv")
+                        else:
+                            write(place, "new", list_text(new["A"]))
                         told.append(reply(port, request(LINE)))
                 os.replace(f"{place}/new", f"{place}/A.csv")
     wanted = [certificate(1)] * 2 + [certificate(2, new)] * 2

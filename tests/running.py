@@ -311,10 +311,10 @@ def main() -> None:
     settle()
     program, kinds = sys.argv[1], list(itertools.product((4, 16, SLOW), (True, False)))
     with concurrent.futures.ThreadPoolExecutor(len(kinds)) as at_once:
-        direct = list(at_once.map(lambda kind: beside(program, *kind, proxied=False), kinds))
+        direct = [at_once.submit(beside, program, count, silent, False) for count, silent in kinds]
     for (count, silent), took in zip(kinds, direct):
         what = f"{count} that send {'nothing' if silent else 'a byte now and then'}"
-        print(f"| {what} | {took} | {beside(program, count, silent, proxied=True)} |", flush=True)
+        print(f"| {what} | {took.result()} | {beside(program, count, silent, True)} |", flush=True)
 
 
 if __name__ == "__main__":
