@@ -1,4 +1,4 @@
-# make try      answers the hotels' query lines by the whole program, UNPROVED, in about two minutes, and leaves nothing
+# make try      answers the hotels' query lines by the whole program, UNPROVED, in two to five minutes, and leaves nothing
 # make topk     proves and builds the program, at ./topk: an hour or two the first time, and nothing where nothing changed
 # make test     all proofs and tests, the program run as users run it, and the library where `make lib` has built it
 # make run      `make topk`, and the answers to the hotels' query lines
@@ -26,7 +26,7 @@ SHARE = $(DESTDIR)$(PREFIX)/share
 # The answers to the hotels' query lines from the whole program, unproved. Some of the lines are refused, so the program's status is 1.
 HOTEL_FILES = --data catalog.csv=data/catalog.csv $(foreach list,price rating centre quiet,--data hotels/$(list).csv=data/hotels/$(list).csv)
 try:
-	@echo "unproved: compiling the whole program without its proofs, which takes about two minutes" >&2
+	@echo "unproved: compiling the whole program without its proofs, which takes two to five minutes" >&2
 	@said=$$(mktemp) && trap 'rm -f "$$said"' EXIT && cd crates/topk && { rt try $(HOTEL_FILES) -- run catalog.csv < stdin > "$$said" 2>&1; \
 		cat "$$said"; tail -n 1 "$$said" | grep -q '^run=ended status=1 '; }
 	@echo "unproved: the answers above are of the program without its proofs; make topk proves and builds it"
