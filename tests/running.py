@@ -1,5 +1,6 @@
 """What docs/RUNNING.md says of a server that is left alone: the settings that stand beside it, a restart without a gap,
 a list that was replaced, slow clients behind a proxy, many clients at once, and what memory many requests take.
+`python3 tests/running.py PROGRAM` measures the page's table of slow clients.
 """
 from __future__ import annotations
 
