@@ -38,7 +38,7 @@ takes_header before [] fields h new header = record {
 }
 takes_header before (first ∷ records) fields h new header = absurd (both_ways before.started new h.started)
 
-pushed : (records : List (List (List ℕ))) (fields : List (List ℕ)) → (has_some records ≡ false → is_header fields ≡ false)
+pub pushed : (records : List (List (List ℕ))) (fields : List (List ℕ)) → (has_some records ≡ false → is_header fields ≡ false)
     → map row_of (without_header (records ++ fields ∷ [])) ≡ map row_of (without_header records) ++ row_of fields ∷ []
 pushed [] fields other = ap (map row_of) (ap (λ b. cond b [] (fields ∷ [])) (other refl))
 pushed (first ∷ records) fields other = by (is_header first)

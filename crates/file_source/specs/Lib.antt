@@ -3,6 +3,7 @@ pub mod FileAnswers
 pub mod FileLists
 pub mod Filed
 pub mod ListFile
+pub mod PlainRows
 pub mod Shelved
 pub mod Taking
 pub mod Unread

@@ -8,6 +8,7 @@ mod grades;
 mod list_file;
 mod list_source;
 mod numbers;
+mod plain_rows;
 
 pub use file_shelf::{FileShelf, count_take, count_text, read_file};
 pub use file_source::FileSource;

@@ -9,6 +9,7 @@ ghost use Rattle.file_source.specs.Taking.{IsTaken, Puts};
 
 use super::Memory;
 use super::numbers::field_number;
+use super::plain_rows::plain_rows;
 use csv::ByteRecord;
 use csv_records::{TakesRecords, read_records};
 use ranked_list::Row;
@@ -31,16 +32,24 @@ pub(crate) fn read_list(alloc: Global, bytes: &[u8]) -> Result<Reading, Memory>
     ensures records { IfOk result (λ r. r.records.items ≡ list_records bytes.now) }
     ensures broken { IfOk result (λ r. r.broken ≡ list_any is_none r.records.items) }
 {
-    let mut reading = Reading::begin(alloc, lines_within(bytes))?;
+    let room = lines_within(bytes);
+    if let Some(records) = plain_rows(alloc, bytes, room)? {
+        return Ok(Reading {
+            started: true,
+            records,
+            broken: false,
+        });
+    }
+    let mut reading = Reading::begin(alloc, room)?;
     match read_records(alloc, bytes, &mut reading) {
         Ok(()) => Ok(reading),
         Err(_) => Err(Memory),
     }
 }
 
-/// How many lines end within these bytes, at most as many as a list may have rows. For room alone: no clause depends on it.
+/// How many lines these bytes have, at most as many as a list may have rows. For room alone: no clause depends on it.
 fn lines_within(bytes: &[u8]) -> usize {
-    let mut lines = 0;
+    let mut lines = 1;
     for byte in bytes {
         if *byte == b'\n' && lines < MAX_OBJECTS as usize {
             lines += 1;
