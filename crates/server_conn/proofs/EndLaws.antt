@@ -1,6 +1,5 @@
 -- How a connection ends, by how its parts did.
 use Rattle.std.proofs.Common.{◌≡◌, ℕ, Bool, true, false, cond, List, codes, inl, inr, Option, Some, None, IfSome, Result, Ok, Err, refl, sym, ap, subst, ◌∙◌}
-use Rattle.std.specs.Result.{IsOk}
 use Rattle.std.specs.Str.{bytes_eq}
 use Rattle.wire.specs.Targets.{Parts, parts_of}
 use Rattle.wire.specs.Heads.{AnswersRequest}
@@ -12,23 +11,18 @@ use Rattle.wire.specs.declared.writing.Kind.TheVariants.{Text}
 use Rattle.tk_io.specs.Faults.{Rose}
 use Rattle.wire.specs.Refusals.{status_of, body_of, refusal_of, IsRefusedAs}
 use Rattle.wire.proofs.RefusalLaws.{refused_quiet}
-use Rattle.source_pool.specs.declared.hold.Hold.{Hold}
 use Rattle.wire.specs.Replies.{asks_head, Sends}
 use Rattle.wire.specs.declared.refusal.Refusal.{Refusal}
 use Rattle.wire.specs.declared.refusal.Refusal.TheVariants.{TooLarge, BadRequest, NotFound, MethodNotAllowed, SourceFailed, NoMemory}
 use Rattle.query_admission.specs.View.{View}
-use Rattle.server_conn.specs.Asking.{by_parts, routed, line_at, line_in, AsksAt, AsksFor}
+use Rattle.server_conn.specs.Answers.{Remembers}
+use Rattle.server_conn.specs.Asking.{by_parts, routed, line_at, AsksAt, AsksFor}
 use Rattle.server_conn.specs.Becoming.{LineSaid}
-use Rattle.server_conn.specs.Connections.{Visit, Tells, TellsAsked, Serves, ServesHeard, SendsAnswer, Ends}
+use Rattle.server_conn.specs.Connections.{WorkerState, Visit, AnswersLine, Serves, ServesHeard, SendsAnswer, Ends}
 use Rattle.server_conn.proofs.Proving.{ends_proved}
 use Rattle.wire.specs.declared.replying.ConnEnd.{ConnEnd}
 use Rattle.wire.specs.declared.replying.ConnEnd.TheVariants.{LinkFault}
 use Rattle.server_conn.specs.declared.conn.Turn.{Turn}
-
--- a line that is asked about is on the route
-stands : (at : Result (List ℕ) Refusal) (line : List ℕ) → Ok line ≡ line_at at → IsOk at
-stands (Ok query) line is = refl
-stands (Err why) line is = absurd cc
 
 -- a head that is refused for another reason than memory is refused as it asks
 pub asks_refused : (at : Result (List ℕ) Refusal) (why : Refusal) → at ≡ Err why → (at ≡ Err NoMemory → ⊥) → AsksAt at (Err why)
@@ -55,40 +49,24 @@ no_memory method target is = by_method (bytes_eq method (codes "GET")) is
     by_method true e = by_target (parts_of target) e
     by_method false e = absurd cc
 
--- the line that a head asks about is told
-pub serves_told : (view : View) (method target : List ℕ) (before now : List Hold) (line : List ℕ) (answer : Result LineSaid Refusal)
-    → Ok line ≡ line_in method target → Tells view line before now answer → Serves view method target before now answer
-serves_told view method target before now line (Ok told) is tells =
-    subst (λ (a : Result (List ℕ) Refusal). TellsAsked view a before now (Ok told)) is tells
-serves_told view method target before now line (Err NoMemory) is tells = stands (routed method target) line is
-serves_told view method target before now line (Err TooLarge) is tells = absurd tells
-serves_told view method target before now line (Err BadRequest) is tells = absurd tells
-serves_told view method target before now line (Err NotFound) is tells = absurd tells
-serves_told view method target before now line (Err MethodNotAllowed) is tells = absurd tells
-serves_told view method target before now line (Err SourceFailed) is tells = absurd tells
+-- the line that a head asks about is answered
+pub serves_line : (view : View) (method target : List ℕ) (before now : WorkerState) (line bytes : List ℕ) (answer : Result LineSaid Refusal)
+    → AsksFor method target (Ok line) → bytes ≡ line → AnswersLine view bytes before now answer → Serves view method target before now answer
+serves_line view method target before now line bytes answer asks same answers =
+    inl (line, asks, subst (λ (b : List ℕ). AnswersLine view b before now answer) same answers)
 
-pub serves_line : (view : View) (method target : List ℕ) (before now : List Hold) (line bytes : List ℕ) (answer : Result LineSaid Refusal)
-    → Ok line ≡ line_in method target → bytes ≡ line → Tells view bytes before now answer → Serves view method target before now answer
-serves_line view method target before now line bytes answer is same tells =
-    serves_told view method target before now line answer is (subst (λ (b : List ℕ). Tells view b before now answer) same tells)
-
--- a head that is refused is answered without a look
-pub serves_refused : (view : View) (method target : List ℕ) (holds : List Hold) (why : Refusal) → AsksFor method target (Err why)
-    → Serves view method target holds holds (Err why)
-serves_refused view method target holds NoMemory asks = asks
-serves_refused view method target holds TooLarge asks = subst (λ (a : Result (List ℕ) Refusal). TellsAsked view a holds holds (Err TooLarge)) asks (refl, refl)
-serves_refused view method target holds BadRequest asks = subst (λ (a : Result (List ℕ) Refusal). TellsAsked view a holds holds (Err BadRequest)) asks (refl, refl)
-serves_refused view method target holds NotFound asks = subst (λ (a : Result (List ℕ) Refusal). TellsAsked view a holds holds (Err NotFound)) asks (refl, refl)
-serves_refused view method target holds MethodNotAllowed asks = subst (λ (a : Result (List ℕ) Refusal). TellsAsked view a holds holds (Err MethodNotAllowed)) asks (refl, refl)
-serves_refused view method target holds SourceFailed asks = subst (λ (a : Result (List ℕ) Refusal). TellsAsked view a holds holds (Err SourceFailed)) asks (refl, refl)
+-- a head that is refused is answered so
+pub serves_refused : (view : View) (method target : List ℕ) (state : WorkerState) (why : Refusal) → AsksFor method target (Err why)
+    → Serves view method target state state (Err why)
+serves_refused view method target state why asks = inr (why, asks, refl, refl)
 
 -- a request that was answered, where the link took nothing while it was read
 pub replied : (view : View) (visit : Visit) (held : Option (List ℕ)) (faults : ℕ) (heard : Result Head WireFault) (answer : Result LineSaid Refusal) (turn : Turn)
-    → IfSome visit.came (λ bytes. AnswersRequest bytes heard) → visit.read_faults_now ≡ visit.read_faults → held ≡ visit.held → faults ≡ visit.write_faults
+    → Remembers view visit.before.holds visit.before.answers → IfSome visit.came (λ bytes. AnswersRequest bytes heard) → visit.read_faults_now ≡ visit.read_faults → held ≡ visit.held → faults ≡ visit.write_faults
     → ServesHeard view heard visit.before visit.now answer
     → SendsAnswer (asks_head heard) answer held visit.held_now faults visit.write_faults_now turn → Ends view visit turn
-replied view visit held faults heard answer turn reads quiet same_held same_faults serves sends =
-    ends_proved view visit turn (inl (
+replied view visit held faults heard answer turn remembers reads quiet same_held same_faults serves sends =
+    ends_proved view visit turn remembers (inl (
       record { heard = heard; answer = answer; reads = reads; quiet = quiet; serves = serves },
       subst (λ (h : Option (List ℕ)). SendsAnswer (asks_head heard) answer h visit.held_now visit.write_faults visit.write_faults_now turn) same_held
           (subst (λ n. SendsAnswer (asks_head heard) answer held visit.held_now n visit.write_faults_now turn) same_faults sends),
@@ -96,11 +74,11 @@ replied view visit held faults heard answer turn reads quiet same_held same_faul
 
 -- a request that was refused, since its head wasn't read
 pub unheard : (view : View) (visit : Visit) (held : Option (List ℕ)) (faults mid : ℕ) (fault : WireFault) (why : Refusal) (turn : Turn)
-    → refusal_of fault ≡ Some why → IfSome visit.came (λ bytes. AnswersRequest bytes (Err fault)) → Counts {T = Head} visit.read_faults mid (Err fault)
+    → Remembers view visit.before.holds visit.before.answers → refusal_of fault ≡ Some why → IfSome visit.came (λ bytes. AnswersRequest bytes (Err fault)) → Counts {T = Head} visit.read_faults mid (Err fault)
     → visit.read_faults_now ≡ mid → held ≡ visit.held → faults ≡ visit.write_faults → visit.now ≡ visit.before
     → SendsAnswer false (Err why) held visit.held_now faults visit.write_faults_now turn → Ends view visit turn
-unheard view visit held faults mid fault why turn is reads counts later same_held same_faults same sends =
-    replied view visit held faults (Err fault) (Err why) turn reads (later ∙ refused_quiet visit.read_faults mid fault why is counts) same_held same_faults
+unheard view visit held faults mid fault why turn remembers is reads counts later same_held same_faults same sends =
+    replied view visit held faults (Err fault) (Err why) turn remembers reads (later ∙ refused_quiet visit.read_faults mid fault why is counts) same_held same_faults
     (subst (λ (o : Option Refusal). IsRefusedAs {A = LineSaid} o visit.before visit.now (Err why)) (sym is) (refl, same)) sends
 
 -- a reply that is sent is that of its answer
@@ -126,13 +104,13 @@ pub by_test : (held held_now : Option (List ℕ)) (faults faults_now : ℕ) (is_
 by_test held held_now faults faults_now is_head test answer turn is sends = subst (λ t. SendsAnswer t answer held held_now faults faults_now turn) is sends
 
 -- a link that failed while the request was read
-pub unread : (view : View) (visit : Visit) (turn : Turn) → turn ≡ record { end = LinkFault; moved = false } → Rose visit.read_faults visit.read_faults_now
+pub unread : (view : View) (visit : Visit) (turn : Turn) → Remembers view visit.before.holds visit.before.answers → turn ≡ record { end = LinkFault; moved = false } → Rose visit.read_faults visit.read_faults_now
     → visit.held_now ≡ visit.held → visit.write_faults_now ≡ visit.write_faults → visit.now ≡ visit.before → Ends view visit turn
-unread view visit turn is rose held writes pass = ends_proved view visit turn (inr (record {
+unread view visit turn remembers is rose held writes stays = ends_proved view visit turn remembers (inr (record {
   end = ap (λ (t : Turn). t.end) is;
   moved = ap (λ (t : Turn). t.moved) is;
   rose = rose;
   held = held;
   writes = writes;
-  pass = pass;
+  stays = stays;
 }))

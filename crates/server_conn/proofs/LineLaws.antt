@@ -1,5 +1,5 @@
 -- What becomes of a line, and that it can be written.
-use Rattle.std.proofs.Common.{◌≡◌, ℕ, List, [], Some, inl, inr, Option, refl, sym, subst}
+use Rattle.std.proofs.Common.{◌≡◌, ℕ, List, [], Some, inl, inr, Option, Result, Ok, Err, OnErr, refl, sym, subst}
 use Rattle.source_pool.specs.declared.hold.Hold.{Hold}
 use Rattle.query_text.specs.declared.query.Query.{Query}
 use Rattle.cert_text.specs.declared.refusal.Refusal.{Refusal}
@@ -12,12 +12,12 @@ use Rattle.query_admission.specs.declared.line_outcome.LineOutcome.{LineOutcome}
 use Rattle.query_admission.proofs.Becoming.{refused_writable}
 use Rattle.query_run.specs.declared.ended.Ended.{Ended}
 use Rattle.query_run.specs.Endings.{IsRight}
-use Rattle.query_run.specs.Ran.{Ran}
+use Rattle.query_run.specs.Ran.{Ran, RanSome}
 use Rattle.query_run.specs.Seen.{states_seen}
 use Rattle.line_outcome.specs.LineOutcomes.{line_refused, IsEndedAs, CanBeWritten}
 use Rattle.line_outcome.proofs.Refused.{refused_here}
 use Rattle.line_outcome.proofs.Writable.{ended_written}
-use Rattle.server_conn.specs.Becoming.{RunsTo, BecomesHere}
+use Rattle.server_conn.specs.Becoming.{RunsTo, RunsShort, BecomesHere}
 
 -- how a query ended can be written
 pub ended_writable : (ready : Ready) (before now : List Hold) (ended : Ended) → Ran ready before now ended → IsRight ready ended
@@ -44,4 +44,24 @@ refused_written view number bytes refusal query o refused is =
 -- a line whose query ran
 pub run_becomes : (view : View) (number : ℕ) (bytes : List ℕ) (before now : List Hold) (ready : Ready) → IsAdmitted (line_over view number bytes) ready
     → (o : LineOutcome) → RunsTo ready before now o → BecomesHere view number bytes before now o
-run_becomes view number bytes before now ready admitted o runs = inr (inl (record { ready = ready; admitted = admitted; runs = runs }))
+run_becomes view number bytes before now ready admitted o runs = inr (record { ready = ready; admitted = admitted; runs = runs })
+
+-- a query that ended ran some way
+pub ran_some : (ready : Ready) (before now : List Hold) (ended : Ended) → Ran ready before now ended → RanSome ready before now
+ran_some ready before now ended ran = inr (ran.q, record { of = ran.of; served = ran.served; uses = ran.uses })
+
+-- where memory ran out for a line's query it ran some way
+pub runs_short : (view : View) (number : ℕ) (bytes : List ℕ) (before now : List Hold) (ready : Ready) → IsAdmitted (line_over view number bytes) ready
+    → RanSome ready before now → RunsShort view number bytes before now
+runs_short view number bytes before now ready admitted ran = inr (ready, admitted, ran)
+
+-- or for the text of what became of it
+pub became_short : (view : View) (number : ℕ) (bytes : List ℕ) (before now : List Hold) (o : LineOutcome) → BecomesHere view number bytes before now o
+    → RunsShort view number bytes before now
+became_short view number bytes before now o (inl refused) = inl refused.1
+became_short view number bytes before now o (inr run) =
+    runs_short view number bytes before now run.ready run.admitted (ran_some run.ready before now run.runs.ended run.runs.ran)
+
+pub if_short : {A E P : Type 0} (r : Result A E) → P → OnErr r P
+if_short (Ok x) p = tt
+if_short (Err e) p = p

@@ -15,8 +15,7 @@ use Rattle.query_admission.specs.Admission.{IsAdmitted}
 use Rattle.query_admission.specs.declared.line_outcome.LineOutcome.{LineOutcome}
 use Rattle.query_run.specs.declared.ended.Ended.{Ended}
 use Rattle.query_run.specs.Endings.{IsRight}
-use Rattle.query_run.specs.Ran.{Ran}
-use Rattle.query_run.specs.Advancing.{KnowsAll}
+use Rattle.query_run.specs.Ran.{Ran, RanSome}
 use Rattle.query_admission.specs.Causes.{line_over}
 use Rattle.line_outcome.specs.LineOutcomes.{IsEndedAs, IsLineRefused}
 use Rattle.server_conn.specs.declared.line.ToldLine.{ToldLine}
@@ -44,19 +43,13 @@ abbrev pub is_answer : Outcome → Bool
 is_answer (Answered answer) = true
 is_answer (Refused refusal) = false
 
--- this is an answer of the line, by a run of its query through the pass as it was at some moments, since which the pass knows no less
-pub record WasAnswered (view : View) (number : ℕ) (bytes : List ℕ) (holds : List Hold) (o : LineOutcome) : Type 0 where
-  pub before : List Hold
-  pub then_held : List Hold
-  pub run : IsRunHere view number bytes before then_held o
-  pub answer : is_answer o.outcome ≡ true
-  pub since : KnowsAll then_held holds
-
--- what becomes of a line: it is refused before it runs, its query runs through the pass, or it was answered before. Only a run looks at a source
+-- what becomes of a line: it is refused before it runs, and no source is looked at; or its query runs through the pass
 abbrev pub BecomesHere : View → ℕ → List ℕ → List Hold → List Hold → LineOutcome → Type 0
-BecomesHere view number bytes before now o =
-    (IsLineRefused view number bytes o × (now ≡ before))
-    ⊎ (IsRunHere view number bytes before now o ⊎ (WasAnswered view number bytes before o × (now ≡ before)))
+BecomesHere view number bytes before now o = (IsLineRefused view number bytes o × (now ≡ before)) ⊎ IsRunHere view number bytes before now o
+
+-- out of memory: the pass stays, or the line's query, which nothing refuses before it runs, ran some way through it
+abbrev pub RunsShort : View → ℕ → List ℕ → List Hold → List Hold → Type 0
+RunsShort view number bytes before now = (now ≡ before) ⊎ ((ready : Ready) × IsAdmitted (line_over view number bytes) ready × RanSome ready before now)
 
 -- the refusal of a query whose source moved to another version
 abbrev pub is_move : Refusal → Bool

@@ -1,5 +1,5 @@
 -- How a connection of a query server ends.
-use Rattle.std.specs.Prelude.{◌≡◌, ◌⊎◌, ⊤, ℕ, Bool, false, List, codes, Option, Some, IfSome, Result, Ok, Err, IsOk}
+use Rattle.std.specs.Prelude.{◌≡◌, ◌⊎◌, ℕ, Bool, true, false, List, codes, Option, None, Some, IfSome, Result, Ok, Err}
 use Rattle.std.specs.Str.{bytes_eq}
 use Rattle.tk_io.specs.Faults.{Rose}
 use Rattle.wire.specs.Heads.{AnswersRequest}
@@ -13,14 +13,20 @@ use Rattle.wire.specs.Replies.{asks_head, Sends}
 use Rattle.wire.specs.declared.refusal.Refusal.{Refusal}
 use Rattle.wire.specs.declared.refusal.Refusal.TheVariants.{NoMemory}
 use Rattle.query_admission.specs.View.{View}
-use Rattle.server_conn.specs.Asking.{routed, line_in}
-use Rattle.server_conn.specs.Becoming.{LineSaid, IsLineTold}
+use Rattle.server_conn.specs.Asking.{AsksFor}
+use Rattle.server_conn.specs.Becoming.{LineSaid, IsLineTold, RunsShort}
+use Rattle.server_conn.specs.Answers.{LineAnswer, text_of, remembering}
 use Rattle.server_conn.specs.Proving.{TookProved}
 use Rattle.wire.specs.declared.replying.ConnEnd.TheVariants.{LinkFault}
 use Rattle.server_conn.specs.declared.conn.Turn.{Turn}
 
+-- what a worker keeps from one connection to the next: what its pass holds, and the answers that it remembers
+pub record WorkerState : Type 0 where
+  pub holds : List Hold
+  pub answers : List LineAnswer
+
 -- what stands before and after a connection: the bytes that the link had to give and those that it took, where it tells them, its counts of
--- faults, and what the pass holds
+-- faults, and what the worker keeps
 pub record Visit : Type 0 where
   pub came : Option (List ℕ)
   pub held : Option (List ℕ)
@@ -29,27 +35,41 @@ pub record Visit : Type 0 where
   pub read_faults_now : ℕ
   pub write_faults : ℕ
   pub write_faults_now : ℕ
-  pub before : List Hold
-  pub now : List Hold
+  pub before : WorkerState
+  pub now : WorkerState
 
--- a query line is told, or no memory was left
+-- a query line is told what becomes of it; or no memory was left, and its query ran some way or not at all
 abbrev pub Tells : View → List ℕ → List Hold → List Hold → Result LineSaid Refusal → Type 0
 Tells view line before now (Ok told) = IsLineTold view line before now told
-Tells view line before now (Err NoMemory) = ⊤
+Tells view line before now (Err NoMemory) = RunsShort view 1 line before now
 Tells view line before now (Err _) = ⊥
 
--- a query line is told; where a head is refused nothing is looked at
-abbrev pub TellsAsked : View → Result (List ℕ) Refusal → List Hold → List Hold → Result LineSaid Refusal → Type 0
-TellsAsked view (Ok line) before now answer = Tells view line before now answer
-TellsAsked view (Err why) before now answer = (answer ≡ Err why) × (now ≡ before)
+-- what is remembered once a line was answered so
+abbrev pub remembered : List LineAnswer → List ℕ → Result LineSaid Refusal → List LineAnswer
+remembered answers line (Ok told) = remembering answers line told
+remembered answers line (Err why) = answers
 
--- how a request with this method and this target is answered; lack of memory is free where it is on the route
-abbrev pub Serves : View → List ℕ → List ℕ → List Hold → List Hold → Result LineSaid Refusal → Type 0
-Serves view method target before now (Err NoMemory) = IsOk (routed method target)
-Serves view method target before now answer = TellsAsked view (line_in method target) before now answer
+-- what is told of a line whose answer is remembered
+abbrev pub told_again : List ℕ → LineSaid
+told_again text = record { text = text; answered = true; moved = false }
 
--- how what was heard is answered: a head, or what kept it from being read, which is refused without a look
-abbrev pub ServesHeard : View → Result Head WireFault → List Hold → List Hold → Result LineSaid Refusal → Type 0
+-- a line is answered by the text that is remembered of it, and what the worker keeps stays; or it is told now, and its answer is remembered
+abbrev pub AnswersBy : Option (List ℕ) → View → List ℕ → WorkerState → WorkerState → Result LineSaid Refusal → Type 0
+AnswersBy (Some text) view line before now answer = (answer ≡ Ok (told_again text)) × (now ≡ before)
+AnswersBy None view line before now answer = Tells view line before.holds now.holds answer × (now.answers ≡ remembered before.answers line answer)
+
+abbrev pub AnswersLine : View → List ℕ → WorkerState → WorkerState → Result LineSaid Refusal → Type 0
+AnswersLine view line before now answer = AnswersBy (text_of line before.answers) view line before now answer
+
+-- how a request with this method and this target is answered: by its line; or it is refused, as it asks or since no memory was left, and what the worker
+-- keeps stays
+abbrev pub Serves : View → List ℕ → List ℕ → WorkerState → WorkerState → Result LineSaid Refusal → Type 0
+Serves view method target before now answer =
+    ((line : List ℕ) × AsksFor method target (Ok line) × AnswersLine view line before now answer)
+    ⊎ ((why : Refusal) × AsksFor method target (Err why) × (answer ≡ Err why) × (now ≡ before))
+
+-- how what was heard is answered: a head, or what kept it from being read, which is refused, and what the worker keeps stays
+abbrev pub ServesHeard : View → Result Head WireFault → WorkerState → WorkerState → Result LineSaid Refusal → Type 0
 ServesHeard view (Ok head) before now answer = Serves view head.method head.target.items before now answer
 ServesHeard view (Err fault) before now answer = IsRefusedAs (refusal_of fault) before now answer
 
@@ -86,14 +106,14 @@ abbrev pub SendsReply : (view : View) (visit : Visit) → IsVisitServed view vis
 SendsReply view visit served turn =
     SendsAnswer (asks_head served.heard) served.answer visit.held visit.held_now visit.write_faults visit.write_faults_now turn
 
--- the link failed while the request was read: nothing was written, and nothing was looked at
+-- the link failed while the request was read: nothing was written, and what the worker keeps stays
 pub record FailsToRead (visit : Visit) (turn : Turn) : Type 0 where
   pub end : turn.end ≡ LinkFault
   pub moved : turn.moved ≡ false
   pub rose : Rose visit.read_faults visit.read_faults_now
   pub held : visit.held_now ≡ visit.held
   pub writes : visit.write_faults_now ≡ visit.write_faults
-  pub pass : visit.now ≡ visit.before
+  pub stays : visit.now ≡ visit.before
 
 -- the request was answered, and the reply written or a front of it; or the link failed while the request was read
 abbrev pub EndsBy : View → Visit → Turn → Type 0
@@ -105,12 +125,12 @@ pub record Ends (view : View) (visit : Visit) (turn : Turn) : Type 0 where
   pub proves : TookProved visit.held visit.held_now
 
 -- a head was answered and the reply written, or a front of it
-abbrev pub IsRepliedTo : View → List ℕ → List ℕ → List Hold → List Hold → Option (List ℕ) → Option (List ℕ) → ℕ → ℕ → Turn → Type 0
+abbrev pub IsRepliedTo : View → List ℕ → List ℕ → WorkerState → WorkerState → Option (List ℕ) → Option (List ℕ) → ℕ → ℕ → Turn → Type 0
 IsRepliedTo view method target before now held held_now faults faults_now turn =
     (answer : Result LineSaid Refusal) × Serves view method target before now answer
     × SendsAnswer (bytes_eq method (codes "HEAD")) answer held held_now faults faults_now turn
 
--- a query line was told and the reply written, or a front of it
-abbrev pub IsLineReplied : View → List ℕ → Bool → List Hold → List Hold → Option (List ℕ) → Option (List ℕ) → ℕ → ℕ → Turn → Type 0
+-- a query line was answered and the reply written, or a front of it
+abbrev pub IsLineReplied : View → List ℕ → Bool → WorkerState → WorkerState → Option (List ℕ) → Option (List ℕ) → ℕ → ℕ → Turn → Type 0
 IsLineReplied view line is_head before now held held_now faults faults_now turn =
-    (answer : Result LineSaid Refusal) × Tells view line before now answer × SendsAnswer is_head answer held held_now faults faults_now turn
+    (answer : Result LineSaid Refusal) × AnswersLine view line before now answer × SendsAnswer is_head answer held held_now faults faults_now turn

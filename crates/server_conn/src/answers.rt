@@ -1,14 +1,14 @@
 //! What a worker keeps from one connection to the next.
 
-ghost use Rattle.std.specs.Prelude.{◌≡◌, ◌≤◌, ◌<◌, [], length, option_copied, IfOk, OnOk, OnErr};
-ghost use Rattle.std.specs.Vec.{vec_len, vec_capacity};
-ghost use Rattle.server_conn.specs.Answers.{text_of, room_made, AreFew, Keeps};
+ghost use Rattle.std.specs.Prelude.{◌≡◌, ◌≤◌, ◌<◌, ◌+◌, ◌-◌, ◌++◌, ◌∷◌, [], length, drop, map, option_copied, IfOk, vec_capacity};
+ghost use Rattle.server_conn.specs.Answers.{line_answer, text_of, newest, is_kept, remembering};
+ghost use Rattle.server_conn.specs.Becoming.{shown};
 
 use super::line::ToldLine;
 use super::route::TopRoute;
 use std::alloc::Global;
 use std::marker::Model;
-use topk_base::{MAX_LINE, Memory};
+use topk_base::Memory;
 
 /// The most answers that a worker remembers.
 pub const MAX_ANSWERS: usize = 8;
@@ -23,8 +23,8 @@ pub(crate) struct Answer {
     pub(crate) text: Vec<u8>,
 }
 
-/// The last query lines that a worker answered through its pass, the oldest first, each with the text of its answer: at most `MAX_ANSWERS`, of at most
-/// `MAX_ANSWER` bytes. No refusal is among them. Beside them stands the route of its requests, of which contracts see nothing, as it never changes.
+/// The last query lines whose queries a worker ran through its pass to an answer of at most `MAX_ANSWER` bytes, each with the text of its answer: at most
+/// `MAX_ANSWERS`, the oldest first. Beside them stands the route of its requests, of which contracts see nothing, as it never changes.
 #[derive(Drop)]
 pub struct Answers {
     route: TopRoute,
@@ -32,24 +32,24 @@ pub struct Answers {
 }
 
 impl Model for Answers {
-    ghost use Rattle.std.specs.Prelude.{List};
-    ghost use Rattle.server_conn.specs.declared.answers.Answer.{Answer};
-    ghost use Rattle.server_conn.specs.Answers.{AreFew};
+    ghost use Rattle.std.specs.Prelude.{◌≤◌, List, map, vec_capacity};
+    ghost use Rattle.server_conn.specs.declared.answers.TheConstants.{MAX_ANSWERS};
+    ghost use Rattle.server_conn.specs.Answers.{LineAnswer, line_answer, AreFew};
 
-    ghost Value = { List Answer };
+    ghost Value = { List LineAnswer };
 
-    ghost view = { λ a. a.kept.items };
+    ghost view = { λ a. map line_answer a.kept.items };
 
-    ghost invariant = { λ a. AreFew a.kept.items };
+    ghost invariant = { λ a. AreFew (map line_answer a.kept.items) × (MAX_ANSWERS ≤ vec_capacity a.kept) };
 }
 
 impl Answers {
-    /// No answers. Takes memory for the route alone.
+    /// No answers. Takes memory for the route and for the list of answers.
     pub fn make(alloc: Global) -> Result<Answers, Memory>
         ensures { IfOk result (λ answers. answers ≡ []) }
     {
         let route = TopRoute::make(alloc)?;
-        let kept = Vec::new(alloc);
+        let kept = Vec::with_capacity(alloc, MAX_ANSWERS)?;
         Ok(Answers { route, kept })
     }
 
@@ -67,18 +67,20 @@ impl Answers {
         text_in(self.kept.as_slice(), line)
     }
 
-    /// Remembers what was told of a line if it is an answer, and forgets the oldest where there is room for no more. An answer that is too
-    /// long, or for which no memory is left, isn't remembered.
-    pub(crate) fn keep(&mut self, alloc: Global, line: &[u8], told: &ToldLine)
-        ensures { Keeps line.now told.now self.old self.new }
+    /// Remembers what was told of a line if it is an answer that isn't too long, and forgets the oldest where there are too many. Takes no memory.
+    pub(crate) fn keep(&mut self, line: Vec<u8>, told: ToldLine)
+        ensures { self.new ≡ remembering self.old line.items (shown told) }
     {
-        keep_in(alloc, &mut self.kept, line, told);
+        if is_kept(&told) {
+            let text = told.text;
+            push_newest(&mut self.kept, Answer { line, text });
+        }
     }
 }
 
 /// The text of the first answer to a line.
 fn text_in<'a>(answers: &'a [Answer], line: &[u8]) -> Option<&'a [u8]>
-    ensures { option_copied result ≡ text_of line.now answers.now }
+    ensures { option_copied result ≡ text_of line.now (map line_answer answers.now) }
 {
     for place in 0..answers.len() {
         if answers[place].line.as_slice() == line {
@@ -88,53 +90,32 @@ fn text_in<'a>(answers: &'a [Answer], line: &[u8]) -> Option<&'a [u8]>
     None
 }
 
-/// Puts what was told of a line behind the answers.
-fn keep_in(alloc: Global, kept: &mut Vec<Answer>, line: &[u8], told: &ToldLine)
-    requires few { AreFew kept.old.items }
-    ensures keeps { Keeps line.now told.now kept.old.items kept.new.items }
-    ensures few { AreFew kept.new.items }
+/// Whether what is told of a line is to be remembered.
+fn is_kept(told: &ToldLine) -> bool
+    ensures { result ≡ is_kept (shown told.now) }
 {
-    if !told.answered {
-        return;
-    }
-    if line.len() > MAX_LINE as usize {
-        return;
-    }
-    if told.text.len() > MAX_ANSWER {
-        return;
-    }
-    let Ok(answer) = copied(alloc, line, told.text.as_slice()) else {
-        return;
-    };
-    let Ok(()) = make_room(kept) else {
-        drop(answer);
-        return;
-    };
+    told.answered && told.text.len() <= MAX_ANSWER
+}
+
+/// Puts an answer behind the others, of which the oldest goes where there are too many.
+fn push_newest(kept: &mut Vec<Answer>, answer: Answer)
+    requires few { length kept.old.items ≤ MAX_ANSWERS }
+    requires room { MAX_ANSWERS ≤ vec_capacity kept.old }
+    ensures newest { kept.new.items ≡ newest (kept.old.items ++ answer ∷ []) }
+    ensures room { MAX_ANSWERS ≤ vec_capacity kept.new }
+{
+    make_room(kept);
     kept.push_reserved(answer);
 }
 
-/// A line and its answer.
-fn copied(alloc: Global, line: &[u8], text: &[u8]) -> Result<Answer, Memory>
-    ensures line { IfOk result (λ answer. answer.line.items ≡ line.now) }
-    ensures text { IfOk result (λ answer. answer.text.items ≡ text.now) }
-{
-    let line = Vec::from_slice(alloc, line)?;
-    let text = Vec::from_slice(alloc, text)?;
-    Ok(Answer { line, text })
-}
-
 /// Makes room for one more: the oldest goes where there are as many as may be.
-fn make_room(kept: &mut Vec<Answer>) -> Result<(), Memory>
+fn make_room(kept: &mut Vec<Answer>)
     requires few { length kept.old.items ≤ MAX_ANSWERS }
-    ensures made { OnOk result (kept.new.items ≡ room_made kept.old.items) }
-    ensures few { OnOk result (length kept.new.items < MAX_ANSWERS) }
-    ensures room { OnOk result (vec_len kept.new < vec_capacity kept.new) }
-    ensures stay { OnErr result (kept.new.items ≡ kept.old.items) }
+    ensures few { length kept.new.items < MAX_ANSWERS }
+    ensures made { kept.new.items ≡ drop (length kept.old.items + 1 - MAX_ANSWERS) kept.old.items }
+    ensures room { vec_capacity kept.new ≡ vec_capacity kept.old }
 {
-    if kept.len() >= MAX_ANSWERS {
+    if kept.len() == MAX_ANSWERS {
         drop(kept.remove(0));
-        return Ok(());
     }
-    kept.reserve(1)?;
-    Ok(())
 }

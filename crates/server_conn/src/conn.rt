@@ -6,7 +6,7 @@ ghost use Rattle.wire.specs.Sparing.{HoldsRequest, ReadsSparingly};
 ghost use Rattle.server_conn.specs.Entries.{view_in, MayAnswer};
 ghost use Rattle.query_run.specs.Advancing.{KnowsAll};
 ghost use Rattle.server_conn.specs.Answers.{Remembers};
-ghost use Rattle.server_conn.specs.Connections.{Ends, IsRepliedTo, IsLineReplied};
+ghost use Rattle.server_conn.specs.Connections.{WorkerState, Ends, IsRepliedTo, IsLineReplied};
 
 use super::answers::Answers;
 use super::asked::line_asked;
@@ -40,12 +40,12 @@ pub struct Turn {
 ///
 /// With 200 the body is the text of what becomes of the bytes of `q` as the first query line of an input, a certificate or a refusal: the
 /// line is admitted over the catalog, and its query runs over the pool; what it needs of a source and no other thread fetches this thread fetches
-/// itself, by turns over the slot table through its own pass of that. Where the line was answered before through this pass and its answer
-/// is remembered, the body is that answer, and no source is looked at. Every other reply says its reason, but that one to the method HEAD
-/// has no body. All are plain text.
+/// itself, by turns over the slot table through its own pass of that. Then an answer is remembered, as `Answers` says. A line whose answer is remembered is
+/// answered by that: no source is looked at, and what is remembered stays. Every other reply says its reason, but that one to the method
+/// HEAD has no body. All are plain text.
 ///
-/// *Cost*: the text of the reply is made in memory before it is written, since its length stands before it. What is remembered is
-/// compared with the line, and written as it stands.
+/// *Cost*: the text of the reply is made in memory before it is written, since its length stands before it. A line is compared with each
+/// that is remembered, and copied before its query runs.
 pub fn serve_conn<W: Wait, S: Source, L: Link>(
     rt: &W,
     alloc: Global,
@@ -72,8 +72,8 @@ pub fn serve_conn<W: Wait, S: Source, L: Link>(
       read_faults_now = L.Intake.faults link.new;
       write_faults = L.Sink.faults link.old;
       write_faults_now = L.Sink.faults link.new;
-      before = pass.old;
-      now = pass.new;
+      before = record { holds = pass.old; answers = answers.old };
+      now = record { holds = pass.new; answers = answers.new };
     }) result }
     ensures sparing { ReadsSparingly HoldsRequest [] (L.Intake.pieces link.old) (L.Intake.pieces link.new) }
 {
@@ -114,7 +114,8 @@ fn answer_head<W: Wait, S: Source, L: Link>(
     ensures remembers { Remembers (view_in catalog.now) pass.new answers.new }
     ensures apart { L.Sink.aside link.new ≡ L.Sink.aside link.old }
     ensures incoming { (L.left link.new ≡ L.left link.old) × (L.Intake.faults link.new ≡ L.Intake.faults link.old) × (L.Intake.pieces link.new ≡ L.Intake.pieces link.old) }
-    ensures replied { IsRepliedTo (view_in catalog.now) head.now.method head.now.target.items pass.old pass.new
+    ensures replied { IsRepliedTo (view_in catalog.now) head.now.method head.now.target.items
+        (record { holds = pass.old; answers = answers.old }) (record { holds = pass.new; answers = answers.new })
         (L.held link.old) (L.held link.new) (L.Sink.faults link.old) (L.Sink.faults link.new) result }
 {
     let is_head = head.is_head();
@@ -154,18 +155,21 @@ fn answer_line<W: Wait, S: Source, L: Link>(
     ensures remembers { Remembers (view_in catalog.now) pass.new answers.new }
     ensures apart { L.Sink.aside link.new ≡ L.Sink.aside link.old }
     ensures incoming { (L.left link.new ≡ L.left link.old) × (L.Intake.faults link.new ≡ L.Intake.faults link.old) × (L.Intake.pieces link.new ≡ L.Intake.pieces link.old) }
-    ensures replied { IsLineReplied (view_in catalog.now) line.now is_head pass.old pass.new
+    ensures replied { IsLineReplied (view_in catalog.now) line.now is_head
+        (record { holds = pass.old; answers = answers.old }) (record { holds = pass.new; answers = answers.new })
         (L.held link.old) (L.held link.new) (L.Sink.faults link.old) (L.Sink.faults link.new) result }
 {
     if let Some(text) = answers.find(line) {
         return unmoved(send(link, StatusCode::OK, Kind::Text, Some(text)));
     }
+    let Ok(copy) = Vec::from_slice(alloc, line) else {
+        return unmoved(refuse(link, wire::Refusal::NoMemory, is_head));
+    };
     match tell_line(rt, alloc, catalog, pool, table, own, pass, line) {
         Ok(told) => {
             let end = send(link, StatusCode::OK, Kind::Text, Some(told.text.as_slice()));
             let moved = told.moved;
-            answers.keep(alloc, line, &told);
-            drop(told);
+            answers.keep(copy, told);
             Turn { end, moved }
         }
         Err(why) => unmoved(refuse(link, why, is_head)),

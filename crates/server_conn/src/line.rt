@@ -1,14 +1,15 @@
 //! What is told of the query line of a request.
 
-ghost use Rattle.std.specs.Prelude.{◌≡◌, IfOk};
+ghost use Rattle.std.specs.Prelude.{◌≡◌, IfOk, OnErr};
 ghost use Rattle.std.specs.Result.{result_map_both};
 ghost use Rattle.source_pool.specs.Passes.{IsPassOf};
 ghost use Rattle.fetcher.specs.SlotTables.{MayServe};
 ghost use Rattle.query_core.specs.Ready.{IsReady};
 ghost use Rattle.query_run.specs.Advancing.{WaitsForNothing, HasSourcesIn, KnowsAll};
+ghost use Rattle.query_run.specs.Ran.{RanSome};
 ghost use Rattle.line_outcome.specs.LineOutcomes.{CanBeWritten};
 ghost use Rattle.server_conn.specs.Entries.{view_in, MayAnswer};
-ghost use Rattle.server_conn.specs.Becoming.{RunsTo, BecomesHere, is_answer, is_move, is_moved, shown};
+ghost use Rattle.server_conn.specs.Becoming.{RunsTo, RunsShort, BecomesHere, is_answer, is_move, is_moved, shown};
 ghost use Rattle.server_conn.specs.Connections.{Tells};
 
 use super::opened::Opened;
@@ -141,6 +142,7 @@ fn answer_line<W: Wait, S: Source>(
     ensures fit { MayAnswer catalog.now pool.now pass.new }
     ensures knows { KnowsAll pass.old pass.new }
     ensures becomes { IfOk result (BecomesHere (view_in catalog.now) 1 line.now pass.old pass.new) }
+    ensures short { OnErr result (RunsShort (view_in catalog.now) 1 line.now pass.old pass.new) }
     ensures writable { IfOk result CanBeWritten }
 {
     match catalog.admit(alloc, 1, line) {
@@ -170,6 +172,7 @@ fn run_ready<W: Wait, S: Source>(
     ensures rests { WaitsForNothing pass.new }
     ensures knows { KnowsAll pass.old pass.new }
     ensures runs { IfOk result (RunsTo ready pass.old pass.new) }
+    ensures short { OnErr result (RanSome ready pass.old pass.new) }
     ensures writable { IfOk result CanBeWritten }
 {
     let Ok(ended) = run_and_fetch(rt, alloc, pool, table, own, pass, &ready) else {

@@ -11,8 +11,8 @@ returns-in-Ok-clause-replied g c =
     let r = c.answer_line-turn.ensures.replied in
     let same : c.as_bytes-bytes.result.now ≡ cow_str_bytes c.in-Ok.line = search rules in (
       r.0,
-      serves_line (view_in c.args.catalog.now) head.method head.target.items c.args.pass.now c.answer_line-turn.new.pass (cow_str_bytes c.in-Ok.line)
-          c.as_bytes-bytes.result.now r.0 c.in-Ok.ensures same r.1,
+      serves_line (view_in c.args.catalog.now) head.method head.target.items _ _ (cow_str_bytes c.in-Ok.line) c.as_bytes-bytes.result.now r.0
+          c.in-Ok.ensures same r.1,
       by_test _ _ _ _ _ _ r.0 _ c.is_head-is_head.ensures r.2,
     )
 
@@ -23,7 +23,7 @@ pub returns-in-Err-clause-replied : goal.returns-in-Err-clause-replied
 returns-in-Err-clause-replied g c =
     let head = c.args.head.now in (
       Err c.in-Err.why,
-      serves_refused (view_in c.args.catalog.now) head.method head.target.items c.args.pass.now c.in-Err.why c.in-Err.ensures,
+      serves_refused (view_in c.args.catalog.now) head.method head.target.items _ c.in-Err.why c.in-Err.ensures,
       by_test _ _ _ _ _ _ (Err c.in-Err.why) _ c.is_head-is_head.ensures
           (refusal_sent _ _ _ _ _ _ _ _ c.unmoved.ensures c.refuse.ensures.sends),
     )

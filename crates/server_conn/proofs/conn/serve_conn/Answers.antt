@@ -17,11 +17,11 @@ returns-in-Ok-clause-ends g c =
       read_faults_now = g.L.Intake.faults c.answer_head-turn.new.link;
       write_faults = g.L.Sink.faults c.args.link.now;
       write_faults_now = g.L.Sink.faults c.answer_head-turn.new.link;
-      before = c.args.pass.now;
-      now = c.answer_head-turn.new.pass;
+      before = record { holds = c.args.pass.now; answers = c.args.answers.now };
+      now = record { holds = c.answer_head-turn.new.pass; answers = c.answer_head-turn.new.answers };
     } in
     replied (view_in c.args.catalog.now) visit (g.L.Sink.held c.read_request.new.link) (g.L.Sink.faults c.read_request.new.link) (Ok c.in-Ok.head) r.0
-    c.answer_head-turn.result c.in-Ok.ensures.answers (c.answer_head-turn.ensures.incoming.1 ∙ c.in-Ok.ensures.cause) c.read_request.ensures.outgoing.0
+    c.answer_head-turn.result c.requires.remembers c.in-Ok.ensures.answers (c.answer_head-turn.ensures.incoming.1 ∙ c.in-Ok.ensures.cause) c.read_request.ensures.outgoing.0
     c.read_request.ensures.outgoing.1 r.1 r.2
 
 pub returns-in-Some-clause-knows : goal.returns-in-Some-clause-knows
@@ -37,11 +37,11 @@ returns-in-Some-clause-ends g c =
       read_faults_now = g.L.Intake.faults c.refuse.new.link;
       write_faults = g.L.Sink.faults c.args.link.now;
       write_faults_now = g.L.Sink.faults c.refuse.new.link;
-      before = c.args.pass.now;
-      now = c.args.pass.now;
+      before = record { holds = c.args.pass.now; answers = c.args.answers.now };
+      now = record { holds = c.args.pass.now; answers = c.args.answers.now };
     } in
     unheard (view_in c.args.catalog.now) visit (g.L.Sink.held c.read_request.new.link) (g.L.Sink.faults c.read_request.new.link)
-    (g.L.Intake.faults c.read_request.new.link) c.in-Err.fault c.in-Some.why c.unmoved.result (sym c.refusal_of.ensures ∙ c.in-Some.is)
+    (g.L.Intake.faults c.read_request.new.link) c.in-Err.fault c.in-Some.why c.unmoved.result c.requires.remembers (sym c.refusal_of.ensures ∙ c.in-Some.is)
     c.in-Err.ensures.answers c.in-Err.ensures.cause c.refuse.ensures.incoming.1 c.read_request.ensures.outgoing.0 c.read_request.ensures.outgoing.1 refl
     (refusal_sent _ _ _ _ _ _ _ _ c.unmoved.ensures c.refuse.ensures.sends)
 
@@ -58,9 +58,9 @@ returns-in-None-clause-ends g c =
       read_faults_now = g.L.Intake.faults c.read_request.new.link;
       write_faults = g.L.Sink.faults c.args.link.now;
       write_faults_now = g.L.Sink.faults c.read_request.new.link;
-      before = c.args.pass.now;
-      now = c.args.pass.now;
+      before = record { holds = c.args.pass.now; answers = c.args.answers.now };
+      now = record { holds = c.args.pass.now; answers = c.args.answers.now };
     } in
-    unread (view_in c.args.catalog.now) visit _ c.unmoved-in-None.ensures
+    unread (view_in c.args.catalog.now) visit _ c.requires.remembers c.unmoved-in-None.ensures
     (unrefused_rose visit.read_faults visit.read_faults_now c.in-Err.fault (sym c.refusal_of.ensures ∙ c.in-None.is) c.in-Err.ensures.cause)
     c.read_request.ensures.outgoing.0 c.read_request.ensures.outgoing.1 refl

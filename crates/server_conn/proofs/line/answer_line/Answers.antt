@@ -1,12 +1,12 @@
 use Rattle.std.proofs.Common.{subst}
-use Rattle.std.proofs.lemmas.Result.{IfOk-weaker}
+use Rattle.std.proofs.lemmas.Result.{IfOk-weaker, on_err_weaker}
 use Rattle.query_admission.specs.Admission.{Admits}
 use Rattle.query_admission.specs.Causes.{line_over}
 use Rattle.server_conn.specs.Entries.{view_in, HasSources}
 use Rattle.server_conn.specs.Becoming.{RunsTo, BecomesHere}
 use Rattle.query_run.proofs.KnowsLaws.{knows_same}
 use Rattle.server_conn.proofs.PassLaws.{may_still}
-use Rattle.server_conn.proofs.LineLaws.{run_becomes}
+use Rattle.server_conn.proofs.LineLaws.{run_becomes, runs_short}
 use Rattle.server_conn.proofs.line.answer_line.Goals as goal
 
 pub returns-in-Ok-Ready-clause-fit : goal.returns-in-Ok-Ready-clause-fit
@@ -33,3 +33,12 @@ returns-in-Ok-Ready-clause-becomes g c =
     let ready = c.in-Ok-Ready.ready in
     IfOk-weaker c.run_ready.result (RunsTo ready before now) (BecomesHere view 1 line before now)
     (run_becomes view 1 line before now ready (subst (Admits (line_over view 1 line)) c.in-Ok-Ready.field-0-is c.in-Ok-Ready.ensures.admits)) c.run_ready.ensures.runs
+
+pub returns-in-Ok-Ready-clause-short : goal.returns-in-Ok-Ready-clause-short
+returns-in-Ok-Ready-clause-short g c =
+    let view = view_in c.args.catalog.now in
+    let line = c.args.line.now in
+    let ready = c.in-Ok-Ready.ready in
+    on_err_weaker c.run_ready.result
+    (runs_short view 1 line c.args.pass.now c.run_ready.new.pass ready
+    (subst (Admits (line_over view 1 line)) c.in-Ok-Ready.field-0-is c.in-Ok-Ready.ensures.admits)) c.run_ready.ensures.short

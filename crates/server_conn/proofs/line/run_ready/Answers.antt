@@ -2,7 +2,7 @@ use Rattle.std.proofs.lemmas.Result.{IfOk-weaker}
 use Rattle.line_outcome.specs.LineOutcomes.{IsEndedAs, CanBeWritten}
 use Rattle.server_conn.specs.Becoming.{RunsTo}
 use Rattle.query_run.proofs.KnowsLaws.{knows_advanced}
-use Rattle.server_conn.proofs.LineLaws.{runs_to, ended_writable}
+use Rattle.server_conn.proofs.LineLaws.{runs_to, ran_some, if_short, ended_writable}
 use Rattle.server_conn.proofs.line.run_ready.Goals as goal
 
 pub returns-clause-knows : goal.returns-clause-knows
@@ -21,3 +21,7 @@ returns-clause-writable g c =
     let ended = c.in-Ok.ended in
     IfOk-weaker c.line_ended.result (IsEndedAs ready ended) CanBeWritten
     (ended_writable ready c.args.pass.now c.run_and_fetch.new.pass ended c.in-Ok.ensures.ran c.in-Ok.ensures.right) c.line_ended.ensures
+
+pub returns-clause-short : goal.returns-clause-short
+returns-clause-short g c =
+    if_short c.line_ended.result (ran_some c.args.ready c.args.pass.now c.run_and_fetch.new.pass c.in-Ok.ended c.in-Ok.ensures.ran)
