@@ -73,7 +73,7 @@ rows_grow : (s : State) (rows : List Row) → Begins (rows_in s.log) (rows_in (w
 rows_grow s [] = begins_itself (rows_in s.log)
 rows_grow s (row ∷ rows) = row_grows (row_fault (rows_in s.log) (asks_of s) row) s row (λ t. with_rows t rows) (λ t. rows_grow t rows)
 
-page_grows : (s : State) (rows : List Row) → Begins (rows_in s.log) (rows_in (paged s rows).log)
+pub page_grows : (s : State) (rows : List Row) → Begins (rows_in s.log) (rows_in (paged s rows).log)
 page_grows s [] = subst (Begins (rows_in s.log)) (sym (fault_rows s.log (ShortList s.count (length (rows_in s.log))))) (begins_itself (rows_in s.log))
 page_grows s (row ∷ rows) = rows_grow s (row ∷ rows)
 

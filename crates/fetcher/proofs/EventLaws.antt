@@ -15,28 +15,29 @@ use Rattle.source_state.proofs.Lists.{none_not_some}
 use Rattle.source_state.proofs.LogLaws.{kept_rows, kept_settled, kept_faults, settled_rows, settled_settled, settled_faults, fault_settled, fault_first}
 use Rattle.fetcher.specs.Turning.{IsOfSource}
 
--- the want, the asks, the tally and what is settled stay
+-- the count, the want, the asks, the tally and what is settled stay
 pub record Stays (s t : State) : Type 0 where
+  pub count : t.count ≡ s.count
   pub want : t.want ≡ s.want
   pub asks : t.asks ≡ s.asks
   pub tally : t.tally ≡ s.tally
   pub settled : settled_in t.log ≡ settled_in s.log
 
 stays_on : (s t u : State) → Stays s t → Stays t u → Stays s u
-stays_on s t u a b = record { want = b.want ∙ a.want; asks = b.asks ∙ a.asks; tally = b.tally ∙ a.tally; settled = b.settled ∙ a.settled }
+stays_on s t u a b = record { count = b.count ∙ a.count; want = b.want ∙ a.want; asks = b.asks ∙ a.asks; tally = b.tally ∙ a.tally; settled = b.settled ∙ a.settled }
 
 row_kept : (s : State) (row : Row) → Stays s (logged s (Kept row))
-row_kept s row = record { want = refl; asks = refl; tally = refl; settled = kept_settled s.log row }
+row_kept s row = record { count = refl; want = refl; asks = refl; tally = refl; settled = kept_settled s.log row }
 
 fault_set_in : (s : State) (fault : SourceFault) → Stays s (logged s (Fault fault))
-fault_set_in s fault = record { want = refl; asks = refl; tally = refl; settled = fault_settled s.log fault }
+fault_set_in s fault = record { count = refl; want = refl; asks = refl; tally = refl; settled = fault_settled s.log fault }
 
 row_stays : (o : Option SourceFault) (s : State) (row : Row) (next : State → State) → ((t : State) → Stays t (next t)) → Stays s (row_or o s row next)
 row_stays None s row next h = stays_on s (logged s (Kept row)) (next (logged s (Kept row))) (row_kept s row) (h (logged s (Kept row)))
 row_stays (Some fault) s row next h = fault_set_in s fault
 
 rows_stay : (s : State) (rows : List Row) → Stays s (with_rows s rows)
-rows_stay s [] = record { want = refl; asks = refl; tally = refl; settled = refl }
+rows_stay s [] = record { count = refl; want = refl; asks = refl; tally = refl; settled = refl }
 rows_stay s (row ∷ rows) = row_stays (row_fault (rows_in s.log) (asks_of s) row) s row (λ t. with_rows t rows) (λ t. rows_stay t rows)
 
 pub page_stays : (s : State) (rows : List Row) → Stays s (paged s rows)

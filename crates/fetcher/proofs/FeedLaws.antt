@@ -42,8 +42,9 @@ feeds_by s t known agrees grows want asks =
       sight = le_trans agrees.sight grows.mark;
     }
 
-pub seen_by : (s t : State) (known : Known LogEntry) → HasSeen t (after_turn (facts_of s) (facts_of t) known)
-seen_by s t known = record { log = refl; asks = refl; tally = refl; mark = refl; due = refl }
+pub seen_by : (s t : State) (known : Known LogEntry) → KnowsOf (facts_of s) known → FactsGrow (facts_of s) (facts_of t)
+    → HasSeen t (after_turn (facts_of s) (facts_of t) known)
+seen_by s t known agrees grows = record { name = sym (grows.name ∙ agrees.name); log = refl; asks = refl; tally = refl; mark = refl; due = refl }
 
 -- the feeder in its turn may give a state that goes on from the one taken
 pub may_give : (before mid : Feed) (taken given : Facts LogEntry) → mid ≡ in_turn taken before → FactsGrow taken given
@@ -79,8 +80,8 @@ plan_turn page ahead before after s plan e agrees all sound is serves =
       source = refl;
       feeds = feeds_by s s before.pass.1 agrees (grows_same (facts_of s)) refl refl;
       turns = refl;
-      plan = record { found = s; is = found_by s before.pass.1 agrees all sound; sees = seen_by s s before.pass.1; plans = is; serves = serves };
-      looked = record { found = s; is = found_by s before.pass.1 agrees all sound; gave = refl; sees = seen_by s s before.pass.1; plans = is };
+      plan = record { found = s; is = found_by s before.pass.1 agrees all sound; sees = seen_by s s before.pass.1 agrees (grows_same (facts_of s)); plans = is; serves = serves };
+      looked = record { found = s; is = found_by s before.pass.1 agrees all sound; gave = refl; sees = seen_by s s before.pass.1 agrees (grows_same (facts_of s)); plans = is };
     })
 
 -- a turn in which an event came
@@ -106,12 +107,13 @@ event_turn event before after s t of may e agrees all sound is grows kept =
         is = found;
         may = may s found;
         sound = subst IsSound is kept;
-        sees = subst (λ u. HasSeen u (after_turn (facts_of s) (facts_of t) before.pass.1)) is (seen_by s t before.pass.1);
+        sees = subst (λ u. HasSeen u (after_turn (facts_of s) (facts_of t) before.pass.1)) is (seen_by s t before.pass.1 agrees grows);
       };
       told = record {
         found = s;
         is = found;
+        may = may s found;
         gave = ap (λ u. before.pass.1.gave ++ facts_of u ∷ []) is;
-        sees = subst (λ u. HasSeen u (after_turn (facts_of s) (facts_of t) before.pass.1)) is (seen_by s t before.pass.1);
+        sees = subst (λ u. HasSeen u (after_turn (facts_of s) (facts_of t) before.pass.1)) is (seen_by s t before.pass.1 agrees grows);
       };
     })

@@ -10,4 +10,5 @@ mod ChainLaws
 pub mod ServeLaws
 pub mod ClosedLaws
 pub mod PlanLaws
+pub mod CalledLaws
 mod SlotTableLaws

@@ -11,6 +11,7 @@ use Rattle.source_state.specs.declared.plan.Plan.{Plan}
 use Rattle.source_state.specs.declared.plan.Plan.TheVariants as plan
 use Rattle.source_state.specs.State.{State, facts_of}
 use Rattle.source_state.specs.Events as events
+use Rattle.source_state.specs.Events.{MayCome}
 use Rattle.source_state.specs.Looking.{plan_of}
 use Rattle.source_api.specs.declared.source.Trouble.{Trouble}
 use Rattle.source_api.specs.Calls.{Call, with_call}
@@ -44,10 +45,11 @@ pub record IsLooked (page ahead : ℕ) (before after : Known LogEntry) (next : P
   pub sees : HasSeen found after
   pub plans : next ≡ plan_of found page ahead
 
--- one turn of the lock: the pass found a state, and gave it back with one more event
+-- one turn of the lock: the pass found a state to which this event may come, and gave it back with the event
 pub record PutsEvent (event : Event) (before after : Known LogEntry) : Type 0 where
   pub found : State
   pub is : IsFound found before
+  pub may : MayCome found event
   pub gave : after.gave ≡ before.gave ++ facts_of (events.after found event) ∷ []
   pub sees : HasSeen (events.after found event) after
 

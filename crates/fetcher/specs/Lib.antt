@@ -4,6 +4,7 @@ pub mod Causes
 pub mod Moving
 pub mod Metering
 pub mod Chaining
+pub mod Called
 pub mod Telling
 pub mod Serving
 pub mod SlotTables

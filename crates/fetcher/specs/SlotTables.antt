@@ -1,10 +1,10 @@
 -- Turns over the slot table of a run, and who may take them.
-use Rattle.std.specs.Prelude.{◌≡◌, ◌<◌, ℕ, Option, None, Some, List, length, vec_len}
+use Rattle.std.specs.Prelude.{◌≡◌, ◌<◌, ℕ, Option, None, List, length, vec_len}
 use Rattle.std.specs.List.{slice_index_or}
 use Rattle.ranked_list.specs.declared.row.Row.{Row}
 use Rattle.atomic_table.specs.Seated.{TableId}
 use Rattle.keyed_lock.specs.declared.hold.Hold.{Hold}
-use Rattle.keyed_lock.specs.Hold.{Lock, IsPassOf}
+use Rattle.keyed_lock.specs.Hold.{IsPassOf}
 use Rattle.source_api.specs.declared.counts.Counts.{Counts}
 use Rattle.source_api.specs.Calls.{Call}
 use Rattle.fetcher.specs.declared.slot.Slot.{Slot}

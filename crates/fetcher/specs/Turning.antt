@@ -35,6 +35,7 @@ pub record IsFound (state : State) (known : Known LogEntry) : Type 0 where
 
 -- a pass has seen a state at the end of its last turn
 pub record HasSeen (state : State) (known : Known LogEntry) : Type 0 where
+  pub name : known.name ≡ (state.list, state.count)
   pub log : known.seen ≡ state.log
   pub asks : known.met ≡ state.asks
   pub tally : known.tally ≡ state.tally
