@@ -158,7 +158,7 @@ module _ (run : BatchRun) (queries : List RunningQuery) (states : List State) (u
 
 -- what a batch reads
 pub read_by : (run : BatchRun) (batch : BatchState) (ran : IsBatch run batch) → IsReadBy run ran.queries ran.states batch.uses
-read_by run batch ran = record { many = ran.many; closing = ran.closing; served = ran.served; used = ran.used }
+read_by run batch ran = record { many = ran.many; closing = ran.closing; served = ran.served; used = ran.used; called = ran.called }
 
 pub states_sound : (run : BatchRun) (batch : BatchState) (ran : IsBatch run batch) → All IsSound ran.states
 states_sound run batch ran = sound_by run ran.queries ran.states batch.uses (read_by run batch ran)

@@ -4,6 +4,7 @@ use Rattle.std.specs.List.{AllZip, slice_index_or}
 use Rattle.ranked_list.specs.declared.row.Row.{Row}
 use Rattle.ranked_list.specs.Table.{IsRanked, objects}
 use Rattle.source_api.specs.declared.counts.Counts.{Counts}
+use Rattle.source_api.specs.Calls.{Call}
 use Rattle.source_api.specs.declared.source.FailKind.TheVariants as kind
 use Rattle.source_state.specs.declared.look.LookFault.TheVariants as why
 use Rattle.source_state.specs.State.{State, IsSound, state_at}
@@ -16,10 +17,11 @@ use Rattle.query_run.specs.Made.{IsOf}
 use Rattle.query_run.specs.Honest.{IsTrueOf}
 use Rattle.query_run.specs.Endings.{EndsAs, IsRight}
 use Rattle.fetcher.specs.declared.slot.Slot.{Slot}
+use Rattle.fetcher.specs.Called.{WasCalled}
 use Rattle.fetcher.specs.Moving.{TellsNoMove}
 use Rattle.fetcher.specs.Telling.{TellsOf}
 use Rattle.topk_base.specs.declared.settings.Settings.{Settings}
-use Rattle.batch_result.specs.Numbered.{told_at, version_at, counts_at}
+use Rattle.batch_result.specs.Numbered.{told_at, version_at, counts_at, calls_at}
 use Rattle.batch_result.specs.Refusing.{IsRefusedByTurns}
 use Rattle.batch_result.specs.declared.batch.Use.{Use}
 use Rattle.batch_result.specs.Using.{IsUsed, HasCounted}
@@ -33,7 +35,7 @@ abbrev pub batch_of : List Ended → List Use → BatchState
 batch_of endings uses = record { endings = endings; uses = uses }
 
 -- what a batch was run on: the settings, how many objects each source has, the queries that were ready, the lists that the sources tell, their versions
--- that are at hand, and what the sources had counted before and count now
+-- that are at hand, what the sources had counted before and count now, and the calls that were made of them before and by now
 pub record BatchRun : Type 0 where
   pub settings : Settings
   pub sizes : List ℕ
@@ -42,11 +44,13 @@ pub record BatchRun : Type 0 where
   pub versions : List ℕ
   pub before : List Counts
   pub now : List Counts
+  pub made : List (Option (List Call))
+  pub calls : List (Option (List Call))
 
 -- the run of a batch on slots of sources, which stood so before and stand so now
-abbrev pub run_of : {S : Type 0} → (S → Option (List Row)) → (S → Counts) → (S → ℕ) → Settings → List ℕ → List Ready → List (Slot S) → List (Slot S)
-    → BatchRun
-run_of list counts at_hand settings sizes readies old new = record {
+abbrev pub run_of : {S : Type 0} → (S → Option (List Row)) → (S → Counts) → (S → Option (List Call)) → (S → ℕ) → Settings → List ℕ → List Ready
+    → List (Slot S) → List (Slot S) → BatchRun
+run_of list counts calls at_hand settings sizes readies old new = record {
   settings = settings;
   sizes = sizes;
   readies = readies;
@@ -54,6 +58,8 @@ run_of list counts at_hand settings sizes readies old new = record {
   versions = map (λ slot. at_hand slot.source) old;
   before = map (λ slot. counts slot.source) old;
   now = map (λ slot. counts slot.source) new;
+  made = map (λ slot. calls slot.source) old;
+  calls = map (λ slot. calls slot.source) new;
 }
 
 -- the number of objects of a source; what was used of a source, none where it isn't there
@@ -85,7 +91,9 @@ IsSpared q = (list : ℕ) → q.refusal ≢ Some (Look list (why.Call kind.Memor
 --   agrees with it, and a refused one has its cause in the closing state of the source that it needed;
 --   each ended as it stood, with the answer of its run, which is right, or as it was refused, by its own turns, and none for lack of memory;
 --   of each source no more was used than the queries asked for, no query is refused for a call that failed but where such calls were counted, and a list
---   was replaced only where that was counted, in place of the version at hand
+--   was replaced only where that was counted, in place of the version at hand;
+--   where a source tells its calls, those of the run are for pages as the settings cut them and for grades that were asked for, each once, and its closing
+--   log is what they gave
 pub record IsBatch (run : BatchRun) (batch : BatchState) : Type 0 where
   pub states : List State
   pub queries : List RunningQuery
@@ -103,3 +111,5 @@ pub record IsBatch (run : BatchRun) (batch : BatchState) : Type 0 where
   pub counted : (source : ℕ) → source < length run.sizes
       → HasCounted run.settings.workers queries source (state_at states source) (version_at run.versions source) (counts_at run.before source)
       (counts_at run.now source)
+  pub called : (source : ℕ) → source < length run.sizes
+      → WasCalled run.settings.page run.settings.ahead (calls_at run.made source) (calls_at run.calls source) (state_at states source)

@@ -7,18 +7,22 @@ use Rattle.query_run.specs.declared.running_query.RunningQuery.{RunningQuery}
 use Rattle.query_run.specs.Kept.{IsServed}
 use Rattle.query_run.specs.Made.{IsOf}
 use Rattle.batch_result.specs.declared.batch.Use.{Use}
-use Rattle.batch_result.specs.Numbered.{told_at, counts_at}
+use Rattle.fetcher.specs.Called.{WasCalled}
+use Rattle.batch_result.specs.Numbered.{told_at, counts_at, calls_at}
 use Rattle.batch_result.specs.Using.{IsUsed}
 use Rattle.batch_result.specs.Batches.{BatchRun, IsClosing, size_at, use_at}
 
 -- what queries read of the sources of a run, which closed in these states: each transcript is drawn from the closing logs and is how the run of its
--- algorithm begins on every table that agrees with it, and of each source no more was used than the queries asked for
+-- algorithm begins on every table that agrees with it, of each source no more was used than the queries asked for, and the calls of it are those of the
+-- settings, which gave its closing log
 pub record IsReadBy (run : BatchRun) (queries : List RunningQuery) (states : List State) (uses : List Use) : Type 0 where
   pub many : length states ≡ length run.sizes
   pub closing : (source : ℕ) → source < length run.sizes → IsClosing source (size_at run.sizes source) (told_at run.told source) (state_at states source)
   pub served : All (IsServed states) queries
   pub used : (source : ℕ) → source < length run.sizes
       → IsUsed run.settings queries source (state_at states source) (counts_at run.before source) (counts_at run.now source) (use_at uses source)
+  pub called : (source : ℕ) → source < length run.sizes
+      → WasCalled run.settings.page run.settings.ahead (calls_at run.made source) (calls_at run.calls source) (state_at states source)
 
 -- a query that began is one that is ready
 abbrev pub IsOfBegun : Ready → Option RunningQuery → Type 0
