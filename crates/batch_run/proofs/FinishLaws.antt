@@ -21,6 +21,7 @@ use Rattle.tickets.specs.Places.{standing}
 use Rattle.tickets.specs.Rule.{drawn_before}
 use Rattle.tickets.specs.declared.placing.Done.{Done}
 use Rattle.source_api.specs.declared.counts.Counts.{Counts}
+use Rattle.source_api.specs.Calls.{Call}
 use Rattle.source_state.specs.declared.entry.LogEntry.{LogEntry}
 use Rattle.source_api.specs.declared.source.FailKind.{FailKind}
 use Rattle.source_api.specs.declared.source.FailKind.TheVariants as kind
@@ -45,10 +46,12 @@ use Rattle.fetcher.specs.Telling.{TellsOf}
 use Rattle.fetcher.specs.Moving.{TellsMove}
 use Rattle.fetcher.specs.Metering.{RoseBy, WentUp}
 use Rattle.fetcher.proofs.ToldLaws.{fetched_from_nothing}
+use Rattle.fetcher.specs.Called.{WasCalled}
 use Rattle.fetcher.proofs.ClosedLaws.{called_for}
+use Rattle.fetcher.proofs.CalledLaws.{was_called}
 use Rattle.topk_base.specs.declared.settings.Settings.{Settings}
 use Rattle.topk_base.specs.Ranges.{AreSettings}
-use Rattle.batch_result.specs.Numbered.{told_at, version_at, counts_at}
+use Rattle.batch_result.specs.Numbered.{told_at, version_at, counts_at, calls_at}
 use Rattle.batch_result.specs.declared.batch.Use.{Use}
 use Rattle.batch_run.specs.declared.work.Worker.{Worker}
 use Rattle.batch_run.specs.declared.hire.Crew.{Crew}
@@ -506,6 +509,12 @@ module _ (pool : List TableId) (tickets : TableId) (settings : Settings) (counts
   counts_now : (source : ℕ) → source < length counts → counts_at (map (λ (slot : SlotState). slot.counts) after) source ≡ (slot_at after source).counts
   counts_now source s = map_at (λ (slot : SlotState). slot.counts) after source _ _ (let e = h.slots.1 in omega (arith, s, e))
 
+  calls_before : (source : ℕ) → source < length counts → calls_at (map (λ (slot : SlotState). slot.calls) before) source ≡ (slot_at before source).calls
+  calls_before source s = map_at (λ (slot : SlotState). slot.calls) before source _ _ (let e = h.slots.0 in omega (arith, s, e))
+
+  calls_now : (source : ℕ) → source < length counts → calls_at (map (λ (slot : SlotState). slot.calls) after) source ≡ (slot_at after source).calls
+  calls_now source s = map_at (λ (slot : SlotState). slot.calls) after source _ _ (let e = h.slots.1 in omega (arith, s, e))
+
   version_before : (source : ℕ) → source < length counts → version_at (map (λ (slot : SlotState). slot.version) before) source ≡ (slot_at before source).version
   version_before source s = map_at (λ (slot : SlotState). slot.version) before source _ _ (let e = h.slots.0 in omega (arith, s, e))
 
@@ -581,6 +590,12 @@ module _ (pool : List TableId) (tickets : TableId) (settings : Settings) (counts
             (h.closed.each source (there source s)) u.rows (metered.comes refl);
       }
 
+  called_by : (source : ℕ) → source < length counts
+      → WasCalled settings.page settings.ahead (slot_at before source).calls (slot_at after source).calls (state_at states source)
+  called_by source s =
+      was_called settings.page settings.ahead (slot_at before source).calls (slot_at after source).calls (first_feed (lock_at pool source) source (slice_index counts source)).pass.1
+      (feed_at feeds source).pass.1 (hold_at pass source).pass.1 (state_at states source) h.settings_are.some_rows refl (h.fetched source s).called (h.closed.each source (there source s))
+
   reads : IsReadBy (slots_run settings counts readies before after) those states uses
   reads = record {
     many = h.closed.size ∙ h.base_is.size;
@@ -590,6 +605,9 @@ module _ (pool : List TableId) (tickets : TableId) (settings : Settings) (counts
     used = λ source s.
         subst (λ c. IsUsed settings those source (state_at states source) c (counts_at (map (λ (slot : SlotState). slot.counts) after) source) (use_at uses source)) (sym (counts_before source s))
         (subst (λ c. IsUsed settings those source (state_at states source) (slot_at before source).counts c (use_at uses source)) (sym (counts_now source s)) (used_by source s));
+    called = λ source s.
+        subst (λ (z : Option (List Call) × Option (List Call)). WasCalled settings.page settings.ahead z.0 z.1 (state_at states source))
+        (λ i. (sym (calls_before source s) i, sym (calls_now source s) i)) (called_by source s);
   }
 
   pub is_cut : IsCut (slots_run settings counts readies before after)
@@ -726,4 +744,5 @@ module _ (pool : List TableId) (tickets : TableId) (settings : Settings) (counts
               (subst (λ v. HasCounted settings.workers those source (state_at states source) v (counts_at (map (λ (slot : SlotState). slot.counts) before) source) (counts_at (map (λ (slot : SlotState). slot.counts) after) source)) (sym (version_before source s))
               (subst (λ c. HasCounted settings.workers those source (state_at states source) (slot_at before source).version c (counts_at (map (λ (slot : SlotState). slot.counts) after) source)) (sym (counts_before source s))
               (subst (λ c. HasCounted settings.workers those source (state_at states source) (slot_at before source).version (slot_at before source).counts c) (sym (counts_now source s)) (counted source s))));
+          called = reads.called;
         })

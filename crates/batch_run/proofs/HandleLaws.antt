@@ -63,7 +63,7 @@ module _ {S : Type 0} where
 module _ {S : Type 0} (list : S → Option (List Row)) (counts : S → Counts) (calls : S → Option (List Call)) (at_hand : S → ℕ) (states : S → Option ℕ) where
   -- what was served at a slot is what a fetcher does
   pub fetches_of : (pool : List TableId) (settings : Settings) (before now : Slot S) → IsServed list counts calls at_hand states pool settings.page settings.ahead before now
-      → Fetches pool settings (state_of list counts at_hand before) (state_of list counts at_hand now)
+      → Fetches pool settings (state_of list counts calls at_hand before) (state_of list counts calls at_hand now)
   fetches_of pool settings before now s = record {
     feed = s.feed;
     left = s.left;
@@ -76,6 +76,7 @@ module _ {S : Type 0} (list : S → Option (List Row)) (counts : S → Counts) (
     later = s.later;
     feeds = s.feeds;
     turns = s.turns;
+    called = s.called;
     metered = s.meters.metered;
     moved = λ had other tells. elim (s.moved had other tells) [
       | inl was ↦ inl was
@@ -85,7 +86,7 @@ module _ {S : Type 0} (list : S → Option (List Row)) (counts : S → Counts) (
 
   -- what was served is what all fetchers do
   all_fetch : (pool : List TableId) (settings : Settings) (slots now : List (Slot S))
-      → AreServed list counts calls at_hand states pool settings.page settings.ahead slots now → AllFetch list counts at_hand pool settings slots now
+      → AreServed list counts calls at_hand states pool settings.page settings.ahead slots now → AllFetch list counts calls at_hand pool settings slots now
   all_fetch pool settings slots now s = record {
     size = s.size;
     each = λ i d l. fetches_of pool settings (slice_index_or slots i d) (slice_index_or now i d) (s.each i d l);
@@ -93,15 +94,15 @@ module _ {S : Type 0} (list : S → Option (List Row)) (counts : S → Counts) (
 
   -- no turn at all
   pub none_fetched : (pool : List TableId) (settings : Settings) (slots now : List (Slot S))
-      → AreServed list counts calls at_hand states pool settings.page settings.ahead slots slots → now ≡ slots → AllFetch list counts at_hand pool settings slots now
+      → AreServed list counts calls at_hand states pool settings.page settings.ahead slots slots → now ≡ slots → AllFetch list counts calls at_hand pool settings slots now
   none_fetched pool settings slots now fresh same =
-      subst (λ (xs : List (Slot S)). AllFetch list counts at_hand pool settings slots xs) (sym same) (all_fetch pool settings slots slots fresh)
+      subst (λ (xs : List (Slot S)). AllFetch list counts calls at_hand pool settings slots xs) (sym same) (all_fetch pool settings slots slots fresh)
 
   -- what the table gave back
   pub all_served : (table : SlotTable S) (pool : List TableId) (settings : Settings) (slots now : List (Slot S)) → IsSlotTable table pool
       → IsOpenedOver settings slots table
       → AreServed list counts calls at_hand states table.lock.key.pool.value table.lock.key.page table.lock.key.ahead table.lock.key.slots.value.items now
-      → AllFetch list counts at_hand pool settings slots now
+      → AllFetch list counts calls at_hand pool settings slots now
   all_served table pool settings slots now are began served =
       all_fetch pool settings slots now
       (subst (λ (z : List TableId × ℕ × ℕ × List (Slot S)). AreServed list counts calls at_hand states z.0 z.1 z.2 z.3 now)

@@ -4,6 +4,7 @@ use Rattle.std.proofs.lemmas.Bool.{cases_lt}
 use Rattle.std.proofs.lemmas.List.{take_all, take_at, take-take, length-set, length_push, get_or-take, get_or-set_same, get_or-set_other, get_or_push, get_or_append_left, get_or_default}
 use Rattle.ranked_list.specs.declared.row.Row.{Row}
 use Rattle.source_api.specs.declared.counts.Counts.{Counts}
+use Rattle.source_api.specs.Calls.{Call}
 use Rattle.source_pool.specs.Passes.{Feed, no_feed, feed_at}
 use Rattle.fetcher.specs.declared.slot.Slot.{Slot}
 use Rattle.fetcher.specs.Metering.{nothing}
@@ -34,14 +35,14 @@ front_less feeds left popped feeder front last =
     sym (take_at popped (feeder ∷ []) (length popped) refl) ∙ ap (take (length popped)) (sym last ∙ front)
     ∙ take-take (length popped) (length left) feeds (omega (arith, long))
 
-module _ {S : Type 0} (list : S → Option (List Row)) (counts : S → Counts) (at_hand : S → ℕ) where
+module _ {S : Type 0} (list : S → Option (List Row)) (counts : S → Counts) (calls : S → Option (List Call)) (at_hand : S → ℕ) where
   -- the slots from as many on as feeders are left have theirs
   pub record LentTo (feeds left : List Feed) (before now : List (Slot S)) : Type 0 where
     pub size : length now ≡ length before
     pub left_is : left ≡ take (length left) feeds
     pub rest : (i : ℕ) (d : Slot S) → i < length left → slice_index_or now i d ≡ slice_index_or before i d
     pub done : (i : ℕ) (d : Slot S) → length left ≤ i → i < length before
-        → state_of list counts at_hand (slice_index_or now i d) ≡ record (state_of list counts at_hand (slice_index_or before i d)) { feeder = Some (feed_at feeds i); fetched = nothing }
+        → state_of list counts calls at_hand (slice_index_or now i d) ≡ record (state_of list counts calls at_hand (slice_index_or before i d)) { feeder = Some (feed_at feeds i); fetched = nothing }
 
   pub lent_none : (feeds : List Feed) (before : List (Slot S)) → length feeds ≡ length before → LentTo feeds feeds before before
   lent_none feeds before many = record {
@@ -75,16 +76,16 @@ module _ {S : Type 0} (list : S → Option (List Row)) (counts : S → Counts) (
         left_is = front_less feeds left popped feeder h.left_is last;
         rest = λ i d l. get_or-set_other now at i new d (λ q. absurd (omega (arith, q, l, at_is))) ∙ h.rest i d (omega (arith, l, long));
         done = λ i d ge l. elim (cases_lt at i) [
-          | inl less ↦ ap (state_of list counts at_hand) (get_or-set_other now at i new d (λ q. absurd (omega (arith, q, less)))) ∙ h.done i d (omega (arith, less, long, at_is)) l
+          | inl less ↦ ap (state_of list counts calls at_hand) (get_or-set_other now at i new d (λ q. absurd (omega (arith, q, less)))) ∙ h.done i d (omega (arith, less, long, at_is)) l
           | inr more ↦ let same : at ≡ i = omega (arith, more, ge, at_is) in
-              subst (λ (j : ℕ). state_of list counts at_hand (slice_index_or (slice_set now at new) j d) ≡ record (state_of list counts at_hand (slice_index_or before j d)) { feeder = Some (feed_at feeds j); fetched = nothing }) same
-              (ap (state_of list counts at_hand) (get_or-set_same now at new d within)
-              ∙ ap (λ (s : Slot S). record (state_of list counts at_hand s) { feeder = Some feeder; fetched = nothing }) (get_or_default now at x d within ∙ h.rest at d (omega (arith, long, at_is)))
-              ∙ ap (λ (f : Feed). record (state_of list counts at_hand (slice_index_or before at d)) { feeder = Some f; fetched = nothing }) fed)
+              subst (λ (j : ℕ). state_of list counts calls at_hand (slice_index_or (slice_set now at new) j d) ≡ record (state_of list counts calls at_hand (slice_index_or before j d)) { feeder = Some (feed_at feeds j); fetched = nothing }) same
+              (ap (state_of list counts calls at_hand) (get_or-set_same now at new d within)
+              ∙ ap (λ (s : Slot S). record (state_of list counts calls at_hand s) { feeder = Some feeder; fetched = nothing }) (get_or_default now at x d within ∙ h.rest at d (omega (arith, long, at_is)))
+              ∙ ap (λ (f : Feed). record (state_of list counts calls at_hand (slice_index_or before at d)) { feeder = Some f; fetched = nothing }) fed)
         ];
       }
 
-  pub lent_all : (feeds left : List Feed) (before now : List (Slot S)) → LentTo feeds left before now → left ≡ [] → AreLent list counts at_hand feeds before now
+  pub lent_all : (feeds left : List Feed) (before now : List (Slot S)) → LentTo feeds left before now → left ≡ [] → AreLent list counts calls at_hand feeds before now
   lent_all feeds left before now h none = record {
     size = h.size;
     each = λ i d l. h.done i d (let e : length left ≡ 0 = ap length none in omega (arith, e)) l;
@@ -96,7 +97,7 @@ module _ {S : Type 0} (list : S → Option (List Row)) (counts : S → Counts) (
     pub many : length feeds ≡ place
     pub were : (i : ℕ) (d : Slot S) → i < place → (slice_index_or before i d).feeder ≡ Some (feed_at feeds i)
     pub done : (i : ℕ) (d : Slot S) → i < place
-        → state_of list counts at_hand (slice_index_or now i d) ≡ record (state_of list counts at_hand (slice_index_or before i d)) { feeder = None }
+        → state_of list counts calls at_hand (slice_index_or now i d) ≡ record (state_of list counts calls at_hand (slice_index_or before i d)) { feeder = None }
     pub rest : (i : ℕ) (d : Slot S) → place ≤ i → slice_index_or now i d ≡ slice_index_or before i d
 
   pub back_none : (before : List (Slot S)) (feeds : List Feed) → feeds ≡ [] → BackTo 0 before before feeds
@@ -126,18 +127,18 @@ module _ {S : Type 0} (list : S → Option (List Row)) (counts : S → Counts) (
               ∙ ap (λ (f : Feed). Some f) (sym (ap (λ (fs : List Feed). feed_at fs place) pushed ∙ get_or_push feeds feeder no_feed place h.many)))
         ];
         done = λ i d l. elim (cases_lt i place) [
-          | inl less ↦ ap (state_of list counts at_hand) (get_or-set_other now place i new d (λ q. absurd (omega (arith, q, less)))) ∙ h.done i d less
+          | inl less ↦ ap (state_of list counts calls at_hand) (get_or-set_other now place i new d (λ q. absurd (omega (arith, q, less)))) ∙ h.done i d less
           | inr more ↦ let same : place ≡ i = omega (arith, more, l) in
-              subst (λ (j : ℕ). state_of list counts at_hand (slice_index_or (slice_set now place new) j d) ≡ record (state_of list counts at_hand (slice_index_or before j d)) { feeder = None }) same
-              (ap (state_of list counts at_hand) (get_or-set_same now place new d within)
-              ∙ ap (λ (f : Option Feed). record (state_of list counts at_hand (slice_index_or now place x)) { feeder = f }) none
-              ∙ ap (λ (s : Slot S). record (state_of list counts at_hand s) { feeder = None }) (get_or_default now place x d within ∙ h.rest place d (le_refl place)))
+              subst (λ (j : ℕ). state_of list counts calls at_hand (slice_index_or (slice_set now place new) j d) ≡ record (state_of list counts calls at_hand (slice_index_or before j d)) { feeder = None }) same
+              (ap (state_of list counts calls at_hand) (get_or-set_same now place new d within)
+              ∙ ap (λ (f : Option Feed). record (state_of list counts calls at_hand (slice_index_or now place x)) { feeder = f }) none
+              ∙ ap (λ (s : Slot S). record (state_of list counts calls at_hand s) { feeder = None }) (get_or_default now place x d within ∙ h.rest place d (le_refl place)))
         ];
         rest = λ i d ge. get_or-set_other now place i new d (λ q. absurd (omega (arith, q, ge))) ∙ h.rest i d (omega (arith, ge));
       }
 
   pub back_all : (place : ℕ) (before now : List (Slot S)) (feeds : List Feed) → length before ≤ place → place ≤ length before → BackTo place before now feeds
-      → AreTakenBack list counts at_hand before feeds now
+      → AreTakenBack list counts calls at_hand before feeds now
   back_all place before now feeds all within h = record {
     size = h.size;
     many = h.many ∙ omega (arith, all, within);

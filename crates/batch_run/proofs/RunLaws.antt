@@ -3,48 +3,52 @@ use Rattle.std.proofs.Common.{◌≡◌, ◌<◌, ℕ, suc, Option, Result, Ok, 
 use Rattle.std.specs.List.{AllZip}
 use Rattle.ranked_list.specs.declared.row.Row.{Row}
 use Rattle.source_api.specs.declared.counts.Counts.{Counts}
+use Rattle.source_api.specs.Calls.{Call}
 use Rattle.source_api.specs.Counting.{NoneFell}
 use Rattle.fetcher.specs.declared.slot.Slot.{Slot}
 use Rattle.topk_base.specs.declared.settings.Settings.{Settings}
 use Rattle.query_core.specs.declared.ready.Ready.{Ready}
-use Rattle.batch_run.specs.Slots.{SlotState, states_of, slot_at, AllFetch, AreLent, AreTakenBack}
+use Rattle.batch_run.specs.Slots.{SlotState, state_of, states_of, slot_at, AllFetch, AreLent, AreTakenBack}
 use Rattle.batch_run.specs.Working.{AllWorked}
 use Rattle.batch_run.proofs.CrewLaws.{ran_parts}
 use Rattle.batch_run.proofs.SlotLaws.{all_fetched}
-use Rattle.batch_result.specs.Batches.{BatchRun, run_of}
+use Rattle.batch_result.specs.Batches.{run_of}
 use Rattle.batch_run.specs.declared.hire.Crew.{Crew}
 use Rattle.batch_run.specs.Crews.{HasRun, IsNewCrew}
 use Rattle.batch_run.specs.Finishing.{slots_run}
 
-module _ {S : Type 0} (list : S → Option (List Row)) (counts : S → Counts) (at_hand : S → ℕ) where
+module _ {S : Type 0} (list : S → Option (List Row)) (counts : S → Counts) (calls : S → Option (List Call)) (at_hand : S → ℕ) where
   -- the parts of the slots, at once and by their states
-  told_twice : (slots : List (Slot S)) → map (λ (slot : Slot S). list slot.source) slots ≡ map (λ (s : SlotState). s.told) (states_of list counts at_hand slots)
-  told_twice [] = refl
-  told_twice (slot ∷ slots) = ap (λ xs. list slot.source ∷ xs) (told_twice slots)
+  parts_twice : {X : Type 0} (part : SlotState → X) (slots : List (Slot S))
+      → map (λ (slot : Slot S). part (state_of list counts calls at_hand slot)) slots ≡ map part (states_of list counts calls at_hand slots)
+  parts_twice part [] = refl
+  parts_twice part (slot ∷ slots) = ap (λ xs. part (state_of list counts calls at_hand slot) ∷ xs) (parts_twice part slots)
 
-  versions_twice : (slots : List (Slot S)) → map (λ (slot : Slot S). at_hand slot.source) slots ≡ map (λ (s : SlotState). s.version) (states_of list counts at_hand slots)
-  versions_twice [] = refl
-  versions_twice (slot ∷ slots) = ap (λ xs. at_hand slot.source ∷ xs) (versions_twice slots)
+  told_twice : (slots : List (Slot S)) → map (λ (slot : Slot S). list slot.source) slots ≡ map (λ (s : SlotState). s.told) (states_of list counts calls at_hand slots)
+  told_twice slots = parts_twice (λ (s : SlotState). s.told) slots
 
-  counts_twice : (slots : List (Slot S)) → map (λ (slot : Slot S). counts slot.source) slots ≡ map (λ (s : SlotState). s.counts) (states_of list counts at_hand slots)
-  counts_twice [] = refl
-  counts_twice (slot ∷ slots) = ap (λ xs. counts slot.source ∷ xs) (counts_twice slots)
+  versions_twice : (slots : List (Slot S)) → map (λ (slot : Slot S). at_hand slot.source) slots ≡ map (λ (s : SlotState). s.version) (states_of list counts calls at_hand slots)
+  versions_twice slots = parts_twice (λ (s : SlotState). s.version) slots
+
+  counts_twice : (slots : List (Slot S)) → map (λ (slot : Slot S). counts slot.source) slots ≡ map (λ (s : SlotState). s.counts) (states_of list counts calls at_hand slots)
+  counts_twice slots = parts_twice (λ (s : SlotState). s.counts) slots
+
+  calls_twice : (slots : List (Slot S)) → map (λ (slot : Slot S). calls slot.source) slots ≡ map (λ (s : SlotState). s.calls) (states_of list counts calls at_hand slots)
+  calls_twice slots = parts_twice (λ (s : SlotState). s.calls) slots
 
   pub run_is : (settings : Settings) (sizes : List ℕ) (readies : List Ready) (old new : List (Slot S))
-      → run_of list counts at_hand settings sizes readies old new ≡ slots_run settings sizes readies (states_of list counts at_hand old) (states_of list counts at_hand new)
-  run_is settings sizes readies old new =
-      ap (λ told. run settings sizes readies told (map (λ (slot : Slot S). at_hand slot.source) old) (map (λ (slot : Slot S). counts slot.source) old)
-      (map (λ (slot : Slot S). counts slot.source) new)) (told_twice old)
-      ∙ (ap (λ versions. run settings sizes readies (map (λ (s : SlotState). s.told) (states_of list counts at_hand old)) versions
-      (map (λ (slot : Slot S). counts slot.source) old) (map (λ (slot : Slot S). counts slot.source) new)) (versions_twice old)
-      ∙ (ap (λ before. run settings sizes readies (map (λ (s : SlotState). s.told) (states_of list counts at_hand old))
-      (map (λ (s : SlotState). s.version) (states_of list counts at_hand old)) before (map (λ (slot : Slot S). counts slot.source) new)) (counts_twice old)
-      ∙ ap (λ now. run settings sizes readies (map (λ (s : SlotState). s.told) (states_of list counts at_hand old))
-      (map (λ (s : SlotState). s.version) (states_of list counts at_hand old)) (map (λ (s : SlotState). s.counts) (states_of list counts at_hand old)) now) (counts_twice new)))
-    where
-      run : Settings → List ℕ → List Ready → List (Option (List Row)) → List ℕ → List Counts → List Counts → BatchRun
-      run settings sizes readies told versions before now =
-          record { settings = settings; sizes = sizes; readies = readies; told = told; versions = versions; before = before; now = now }
+      → run_of list counts calls at_hand settings sizes readies old new ≡ slots_run settings sizes readies (states_of list counts calls at_hand old) (states_of list counts calls at_hand new)
+  run_is settings sizes readies old new = λ i. record {
+    settings = settings;
+    sizes = sizes;
+    readies = readies;
+    told = told_twice old i;
+    versions = versions_twice old i;
+    before = counts_twice old i;
+    now = counts_twice new i;
+    made = calls_twice old i;
+    calls = calls_twice new i;
+  }
 
   -- a part of the slots stays, and no count falls, where that is so of each slot
   pub parts_stay : {X : Type 0} (part : SlotState → X) (old new : List SlotState) → length old ≡ length new
@@ -66,21 +70,21 @@ module _ {S : Type 0} (list : S → Option (List Row)) (counts : S → Counts) (
   none_fell (s ∷ old) (t ∷ new) size h = (h 0 (omega arith), none_fell old new (omega (arith, size)) (λ source l. h (suc source) (omega (arith, l))))
 
   pub slots_lists : (old new : List (Slot S))
-      → map (λ (s : SlotState). s.told) (states_of list counts at_hand new) ≡ map (λ (s : SlotState). s.told) (states_of list counts at_hand old)
+      → map (λ (s : SlotState). s.told) (states_of list counts calls at_hand new) ≡ map (λ (s : SlotState). s.told) (states_of list counts calls at_hand old)
       → map (λ (slot : Slot S). list slot.source) new ≡ map (λ (slot : Slot S). list slot.source) old
   slots_lists old new e = told_twice new ∙ (e ∙ sym (told_twice old))
 
   pub slots_versions : (old new : List (Slot S))
-      → map (λ (s : SlotState). s.version) (states_of list counts at_hand new) ≡ map (λ (s : SlotState). s.version) (states_of list counts at_hand old)
+      → map (λ (s : SlotState). s.version) (states_of list counts calls at_hand new) ≡ map (λ (s : SlotState). s.version) (states_of list counts calls at_hand old)
       → map (λ (slot : Slot S). at_hand slot.source) new ≡ map (λ (slot : Slot S). at_hand slot.source) old
   slots_versions old new e = versions_twice new ∙ (e ∙ sym (versions_twice old))
 
   pub slots_counts : (old new : List (Slot S))
-      → AllZip NoneFell (map (λ (s : SlotState). s.counts) (states_of list counts at_hand old)) (map (λ (s : SlotState). s.counts) (states_of list counts at_hand new))
+      → AllZip NoneFell (map (λ (s : SlotState). s.counts) (states_of list counts calls at_hand old)) (map (λ (s : SlotState). s.counts) (states_of list counts calls at_hand new))
       → AllZip NoneFell (map (λ (slot : Slot S). counts slot.source) old) (map (λ (slot : Slot S). counts slot.source) new)
   slots_counts old new h =
       subst (λ xs. AllZip NoneFell xs (map (λ (slot : Slot S). counts slot.source) new)) (sym (counts_twice old))
-      (subst (AllZip NoneFell (map (λ (s : SlotState). s.counts) (states_of list counts at_hand old))) (sym (counts_twice new)) h)
+      (subst (AllZip NoneFell (map (λ (s : SlotState). s.counts) (states_of list counts calls at_hand old))) (sym (counts_twice new)) h)
 
   -- no count fell where nothing was called
   pub counts_same : (slots : List (Slot S))
@@ -92,19 +96,19 @@ pub failed_so : {A E P Q : Type 0} (r : Result A E) → (P → Q) → OnErr r P 
 failed_so (Ok x) f h = tt
 failed_so (Err e) f h = f h
 
-module _ {S : Type 0} (list : S → Option (List Row)) (counts : S → Counts) (at_hand : S → ℕ) where
+module _ {S : Type 0} (list : S → Option (List Row)) (counts : S → Counts) (calls : S → Option (List Call)) (at_hand : S → ℕ) where
   -- a new crew has run once its feeders were lent, its workers worked, and its feeders were taken back
   pub has_run : (settings : Settings) (sizes : List ℕ) (readies : List Ready) (crew now : Crew) (before lent fetched after : List (Slot S))
       → IsNewCrew sizes (length readies) settings.workers crew → length sizes ≡ length before
-      → AreLent list counts at_hand crew.feeders.items before lent → AllFetch list counts at_hand crew.pool settings lent fetched
-      → AreTakenBack list counts at_hand fetched now.feeders.items after
+      → AreLent list counts calls at_hand crew.feeders.items before lent → AllFetch list counts calls at_hand crew.pool settings lent fetched
+      → AreTakenBack list counts calls at_hand fetched now.feeders.items after
       → AllWorked crew.pool crew.tickets readies crew.workers.items now.workers.items
       → now ≡ record crew { feeders = now.feeders; workers = now.workers }
-      → HasRun settings sizes readies (states_of list counts at_hand before) (states_of list counts at_hand after) now
+      → HasRun settings sizes readies (states_of list counts calls at_hand before) (states_of list counts calls at_hand after) now
   has_run settings sizes readies crew now before lent fetched after new many given fetch back worked same =
-      let all = all_fetched list counts at_hand crew.pool settings sizes crew.feeders.items now.feeders.items before lent fetched after new.hiring.base.size many given fetch back new.fed in
+      let all = all_fetched list counts calls at_hand crew.pool settings sizes crew.feeders.items now.feeders.items before lent fetched after new.hiring.base.size many given fetch back new.fed in
       let parts = ran_parts settings sizes readies crew.pool crew.tickets crew.pass crew.draws crew.workers.items now.workers.items new.hiring new.size worked in
-      subst (HasRun settings sizes readies (states_of list counts at_hand before) (states_of list counts at_hand after)) (sym same)
+      subst (HasRun settings sizes readies (states_of list counts calls at_hand before) (states_of list counts calls at_hand after)) (sym same)
       (record {
         base = parts.base;
         first = parts.first;
@@ -118,28 +122,28 @@ module _ {S : Type 0} (list : S → Option (List Row)) (counts : S → Counts) (
         uses = new.uses;
       })
 
-module _ {S : Type 0} (list : S → Option (List Row)) (counts : S → Counts) (at_hand : S → ℕ) where
+module _ {S : Type 0} (list : S → Option (List Row)) (counts : S → Counts) (calls : S → Option (List Call)) (at_hand : S → ℕ) where
   -- what a run keeps of the sources
   pub kept_lists : (settings : Settings) (sizes : List ℕ) (readies : List Ready) (old new : List (Slot S)) (crew : Crew)
-      → HasRun settings sizes readies (states_of list counts at_hand old) (states_of list counts at_hand new) crew
+      → HasRun settings sizes readies (states_of list counts calls at_hand old) (states_of list counts calls at_hand new) crew
       → map (λ (slot : Slot S). list slot.source) new ≡ map (λ (slot : Slot S). list slot.source) old
   kept_lists settings sizes readies old new crew ran =
-      slots_lists list counts at_hand old new
-      (parts_stay list counts at_hand (λ (s : SlotState). s.told) (states_of list counts at_hand old) (states_of list counts at_hand new) (ran.slots.0 ∙ sym ran.slots.1)
+      slots_lists list counts calls at_hand old new
+      (parts_stay list counts calls at_hand (λ (s : SlotState). s.told) (states_of list counts calls at_hand old) (states_of list counts calls at_hand new) (ran.slots.0 ∙ sym ran.slots.1)
       (λ source l. (ran.fetched source (subst (λ n. source < n) ran.slots.0 l)).told))
 
   pub kept_versions : (settings : Settings) (sizes : List ℕ) (readies : List Ready) (old new : List (Slot S)) (crew : Crew)
-      → HasRun settings sizes readies (states_of list counts at_hand old) (states_of list counts at_hand new) crew
+      → HasRun settings sizes readies (states_of list counts calls at_hand old) (states_of list counts calls at_hand new) crew
       → map (λ (slot : Slot S). at_hand slot.source) new ≡ map (λ (slot : Slot S). at_hand slot.source) old
   kept_versions settings sizes readies old new crew ran =
-      slots_versions list counts at_hand old new
-      (parts_stay list counts at_hand (λ (s : SlotState). s.version) (states_of list counts at_hand old) (states_of list counts at_hand new) (ran.slots.0 ∙ sym ran.slots.1)
+      slots_versions list counts calls at_hand old new
+      (parts_stay list counts calls at_hand (λ (s : SlotState). s.version) (states_of list counts calls at_hand old) (states_of list counts calls at_hand new) (ran.slots.0 ∙ sym ran.slots.1)
       (λ source l. (ran.fetched source (subst (λ n. source < n) ran.slots.0 l)).version))
 
   pub kept_counts : (settings : Settings) (sizes : List ℕ) (readies : List Ready) (old new : List (Slot S)) (crew : Crew)
-      → HasRun settings sizes readies (states_of list counts at_hand old) (states_of list counts at_hand new) crew
+      → HasRun settings sizes readies (states_of list counts calls at_hand old) (states_of list counts calls at_hand new) crew
       → AllZip NoneFell (map (λ (slot : Slot S). counts slot.source) old) (map (λ (slot : Slot S). counts slot.source) new)
   kept_counts settings sizes readies old new crew ran =
-      slots_counts list counts at_hand old new
-      (none_fell list counts at_hand (states_of list counts at_hand old) (states_of list counts at_hand new) (ran.slots.0 ∙ sym ran.slots.1)
+      slots_counts list counts calls at_hand old new
+      (none_fell list counts calls at_hand (states_of list counts calls at_hand old) (states_of list counts calls at_hand new) (ran.slots.0 ∙ sym ran.slots.1)
       (λ source l. (ran.fetched source (subst (λ n. source < n) ran.slots.0 l)).later))

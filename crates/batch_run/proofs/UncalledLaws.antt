@@ -5,6 +5,7 @@ use Rattle.std.proofs.lemmas.List.Elements.{All-nil}
 use Rattle.ranked_list.specs.declared.row.Row.{Row}
 use Rattle.topk_theory.proofs.AgreementLists.{contains_nil}
 use Rattle.source_api.specs.declared.counts.Counts.{Counts}
+use Rattle.source_api.specs.Calls.{Call}
 use Rattle.source_api.specs.Told.{HasEachOnce}
 use Rattle.source_state.specs.State.{State, opened, state_at}
 use Rattle.source_state.proofs.Lists.{none_not_some}
@@ -15,11 +16,13 @@ use Rattle.query_run.specs.Kept.{IsServed}
 use Rattle.query_run.proofs.TurnOpening.{opened_length, opened_sound}
 use Rattle.fetcher.specs.declared.slot.Slot.{Slot}
 use Rattle.fetcher.specs.Telling.{TellsOf}
+use Rattle.fetcher.specs.Called.{WasCalled}
 use Rattle.fetcher.proofs.CauseLaws.{comes_none}
+use Rattle.fetcher.proofs.CalledLaws.{not_called}
 use Rattle.topk_base.specs.declared.settings.Settings.{Settings}
 use Rattle.batch_result.specs.declared.batch.Use.{Use}
 use Rattle.batch_result.specs.Batches.{BatchRun, IsClosing, IsHonestFor, run_of, size_at, use_at}
-use Rattle.batch_result.specs.Numbered.{told_at, counts_at}
+use Rattle.batch_result.specs.Numbered.{told_at, counts_at, calls_at}
 use Rattle.batch_result.specs.Using.{IsUsed}
 use Rattle.batch_result.specs.Cut.{IsOfBegun, IsReadBy, IsCut, begun}
 use Rattle.batch_result.proofs.Places.{map_at, stands_at}
@@ -91,7 +94,7 @@ nones_of : (readies : List Ready) → AllZip IsOfBegun readies (nones readies)
 nones_of [] = tt
 nones_of (ready ∷ readies) = (tt, nones_of readies)
 
-module _ {S : Type 0} (list : S → Option (List Row)) (counts : S → Counts) (at_hand : S → ℕ) where
+module _ {S : Type 0} (list : S → Option (List Row)) (counts : S → Counts) (calls : S → Option (List Call)) (at_hand : S → ℕ) where
   told_is : (slots : List (Slot S)) (source : ℕ) → source < length slots → ((s : S) → IfSome (list s) HasEachOnce)
       → IfSome (told_at (map (λ (slot : Slot S). list slot.source) slots) source) HasEachOnce
   told_is slots source l once =
@@ -100,9 +103,9 @@ module _ {S : Type 0} (list : S → Option (List Row)) (counts : S → Counts) (
 
   -- a run that didn't begin
   pub cut_uncalled : (settings : Settings) (sizes : List ℕ) (readies : List Ready) (slots : List (Slot S)) → ((s : S) → IfSome (list s) HasEachOnce)
-      → length sizes ≡ length slots → All (λ size. size ≤ 200000) sizes → IsCut (run_of list counts at_hand settings sizes readies slots slots)
+      → length sizes ≡ length slots → All (λ size. size ≤ 200000) sizes → IsCut (run_of list counts calls at_hand settings sizes readies slots slots)
   cut_uncalled settings sizes readies slots once many small =
-      let run : BatchRun = run_of list counts at_hand settings sizes readies slots slots in
+      let run : BatchRun = run_of list counts calls at_hand settings sizes readies slots slots in
       let none : List Use = [] in
       let read : IsReadBy run [] (opened_from 0 sizes) none =
       record {
@@ -115,6 +118,9 @@ module _ {S : Type 0} (list : S → Option (List Row)) (counts : S → Counts) (
         used = λ source l.
             subst (λ (s : State). IsUsed settings [] source s (counts_at run.before source) (counts_at run.now source) (use_at none source)) (sym (opened_of sizes source l))
             (used_nothing settings source (size_at sizes source) (counts_at run.before source));
+        called = λ source l.
+            subst (λ (s : State). WasCalled settings.page settings.ahead (calls_at run.made source) (calls_at run.made source) s) (sym (opened_of sizes source l))
+            (not_called settings.page settings.ahead (calls_at run.made source) (opened source (size_at sizes source)) refl);
       } in
       record {
         stood = nones readies;

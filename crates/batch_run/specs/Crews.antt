@@ -12,7 +12,7 @@ use Rattle.source_pool.specs.Sharing.{first_hold, first_feed}
 use Rattle.query_core.specs.declared.ready.Ready.{Ready}
 use Rattle.source_api.specs.Counting.{NoneFell}
 use Rattle.fetcher.specs.Turning.{Feeds}
-use Rattle.fetcher.specs.Chaining.{moment, IsFetched}
+use Rattle.fetcher.specs.Chaining.{moment, IsFetched, point, MadeItsCalls}
 use Rattle.fetcher.specs.Metering.{IsMetered}
 use Rattle.fetcher.specs.Moving.{MovesOnly}
 use Rattle.batch_result.specs.Using.{IsReplaced}
@@ -80,6 +80,8 @@ pub record HasFetched (pool : List TableId) (settings : Settings) (source count 
   pub feeds : Feeds (first_feed (lock_at pool source) source count).pass.1 feed.pass.1
   pub turns : IsFetched settings.page settings.ahead before.told (moment before.counts (first_feed (lock_at pool source) source count).pass.1)
       (moment after.counts feed.pass.1)
+  pub called : MadeItsCalls settings.page settings.ahead (point before.calls (first_feed (lock_at pool source) source count).pass.1)
+      (point after.calls feed.pass.1)
   pub metered : IsMetered settings.page settings.ahead after.fetched before.counts after.counts
       (first_feed (lock_at pool source) source count).pass.1 feed.pass.1
   pub moved : MovesOnly (IsReplaced before.version before.counts after.counts) (first_feed (lock_at pool source) source count).pass.1.seen feed.pass.1.seen

@@ -28,6 +28,8 @@ slots_run settings counts readies before after = record {
   versions = map (λ slot. slot.version) before;
   before = map (λ slot. slot.counts) before;
   now = map (λ slot. slot.counts) after;
+  made = map (λ slot. slot.calls) before;
+  calls = map (λ slot. slot.calls) after;
 }
 
 -- a crew has run these queries

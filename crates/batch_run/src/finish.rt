@@ -56,7 +56,7 @@ fn use_all<S: Source>(states: &States, slots: &[Slot<S>], uses: &mut Vec<Use>)
     requires room { length slots.now ≤ vec_capacity uses.old }
     ensures size { length uses.new.items ≡ length slots.now }
     ensures each { (source : ℕ) → source < length slots.now
-        → UsedOf (state_at states.now source) (slot_at (states_of S.list S.counts S.at_hand slots.now) source).fetched (use_at uses.new.items source) }
+        → UsedOf (state_at states.now source) (slot_at (states_of S.list S.counts S.calls S.at_hand slots.now) source).fetched (use_at uses.new.items source) }
 {
     for source in 0..states.len() {
         uses.push_reserved(used(states, source, slots[source as usize].fetched));
@@ -66,13 +66,13 @@ fn use_all<S: Source>(states: &States, slots: &[Slot<S>], uses: &mut Vec<Use>)
 /// What the batch gives, once its crew has run; none where a query hasn't ended, since memory ran out. The pool is closed in either case.
 pub(crate) fn finish<S: Source>(crew: Crew, slots: &[Slot<S>]) -> Result<Batch, Memory>
     requires { (settings : Settings) × (counts : List ℕ) × (readies : List Ready) × (before : List SlotState)
-        × CanFinish settings counts readies before (states_of S.list S.counts S.at_hand slots.now) crew }
+        × CanFinish settings counts readies before (states_of S.list S.counts S.calls S.at_hand slots.now) crew }
     ensures batch { IfOk result (λ batch. (settings : Settings) (counts : List ℕ) (readies : List Ready) (before : List SlotState)
-        → CanFinish settings counts readies before (states_of S.list S.counts S.at_hand slots.now) crew
-        → IsBatch (slots_run settings counts readies before (states_of S.list S.counts S.at_hand slots.now)) batch) }
+        → CanFinish settings counts readies before (states_of S.list S.counts S.calls S.at_hand slots.now) crew
+        → IsBatch (slots_run settings counts readies before (states_of S.list S.counts S.calls S.at_hand slots.now)) batch) }
     ensures cut { OnErr result ((settings : Settings) (counts : List ℕ) (readies : List Ready) (before : List SlotState)
-        → CanFinish settings counts readies before (states_of S.list S.counts S.at_hand slots.now) crew
-        → IsCut (slots_run settings counts readies before (states_of S.list S.counts S.at_hand slots.now))) }
+        → CanFinish settings counts readies before (states_of S.list S.counts S.calls S.at_hand slots.now) crew
+        → IsCut (slots_run settings counts readies before (states_of S.list S.counts S.calls S.at_hand slots.now))) }
 {
     let Crew {
         pool,

@@ -10,7 +10,7 @@ use source_pool::Feeder;
 /// Puts each feeder into the slot of its source, of which nothing is fetched yet. The slots are those of the sources in their order.
 pub fn lend<S: Source>(feeders: &mut Vec<Feeder>, slots: &mut Vec<Slot<S>>)
     requires { vec_len feeders.old ≡ length slots.old.items }
-    ensures lent { AreLent S.list S.counts S.at_hand feeders.old.items slots.old.items slots.new.items }
+    ensures lent { AreLent S.list S.counts S.calls S.at_hand feeders.old.items slots.old.items slots.new.items }
     ensures none { feeders.new.items ≡ [] }
     ensures room { vec_capacity feeders.new ≡ vec_capacity feeders.old }
 {
@@ -27,7 +27,7 @@ pub fn take_back<S: Source>(slots: &mut Vec<Slot<S>>, feeders: &mut Vec<Feeder>)
     requires none { feeders.old.items ≡ [] }
     requires room { length slots.old.items ≤ vec_capacity feeders.old }
     requires full { All (λ slot. is_some slot.feeder ≡ true) slots.old.items }
-    ensures back { AreTakenBack S.list S.counts S.at_hand slots.old.items feeders.new.items slots.new.items }
+    ensures back { AreTakenBack S.list S.counts S.calls S.at_hand slots.old.items feeders.new.items slots.new.items }
     ensures empty { All (λ slot. slot.feeder ≡ None) slots.new.items }
 {
     for place in 0..slots.len() {

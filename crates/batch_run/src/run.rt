@@ -51,8 +51,8 @@ pub fn run_all<W: Threads + Wait + Sync, S: Source>(
     ensures lists { map (λ slot. S.list slot.source) sources.new.items ≡ map (λ slot. S.list slot.source) sources.old.items }
     ensures versions { map (λ slot. S.at_hand slot.source) sources.new.items ≡ map (λ slot. S.at_hand slot.source) sources.old.items }
     ensures later { AllZip NoneFell (map (λ slot. S.counts slot.source) sources.old.items) (map (λ slot. S.counts slot.source) sources.new.items) }
-    ensures cut { OnErr result (IsCut (run_of S.list S.counts S.at_hand settings counts.now queries.now sources.old.items sources.new.items)) }
-    ensures batch { IfOk result (IsBatch (run_of S.list S.counts S.at_hand settings counts.now queries.now sources.old.items sources.new.items)) }
+    ensures cut { OnErr result (IsCut (run_of S.list S.counts S.calls S.at_hand settings counts.now queries.now sources.old.items sources.new.items)) }
+    ensures batch { IfOk result (IsBatch (run_of S.list S.counts S.calls S.at_hand settings counts.now queries.now sources.old.items sources.new.items)) }
     ensures right { IfOk result (λ batch. AllZip IsRight queries.now batch.endings) }
 {
     let mut crew = Crew::make(alloc, counts, queries.len(), settings.workers)?;

@@ -77,7 +77,7 @@ pub(crate) fn run_sides<W: Threads + Wait + Sync, S: Source>(
     requires many { length slots.old.items ≡ length pool.now }
     requires few { (length workers.old.items ≤ 32) × (length slots.old.items < 2 ^ 32) }
     requires workers { All (IsAtWork pool.now tickets.now queries.now) workers.old.items }
-    ensures fetched { AllFetch S.list S.counts S.at_hand pool.now settings slots.old.items slots.new.items }
+    ensures fetched { AllFetch S.list S.counts S.calls S.at_hand pool.now settings slots.old.items slots.new.items }
     ensures worked { AllWorked pool.now tickets.now queries.now workers.old.items workers.new.items }
 {
     let Some((table, mut handles)) = open_sides(alloc, pool, workers, slots, settings) else {

@@ -35,21 +35,21 @@ close-states-requires-clause-whole g c =
 pub use_all-requires-clause-states : goal.use_all-requires-clause-states
 use_all-requires-clause-states g c κs within =
     let can = c.requires.4 in
-    c.close-states.ensures.size ∙ (can.ran.base.size ∙ (sym can.ran.slots.1 ∙ states_long g.S.Source.list g.S.Source.counts g.S.Source.at_hand c.args.slots.now))
+    c.close-states.ensures.size ∙ (can.ran.base.size ∙ (sym can.ran.slots.1 ∙ states_long g.S.Source.list g.S.Source.counts g.S.Source.calls g.S.Source.at_hand c.args.slots.now))
 
 pub use_all-requires-clause-room : goal.use_all-requires-clause-room
 use_all-requires-clause-room g c κs within =
     let can = c.requires.4 in
     let room = can.ran.uses.1 in
     let many = can.ran.slots.1 in
-    let long = states_long g.S.Source.list g.S.Source.counts g.S.Source.at_hand c.args.slots.now in
+    let long = states_long g.S.Source.list g.S.Source.counts g.S.Source.calls g.S.Source.at_hand c.args.slots.now in
     omega (arith, room, many, long)
 
 pub returns-then-not-gather-clause-cut : goal.returns-then-not-gather-clause-cut
 returns-then-not-gather-clause-cut g c settings counts readies before can =
     let crew = c.args.crew in
-    let after = states_of g.S.Source.list g.S.Source.counts g.S.Source.at_hand c.args.slots.now in
-    let long = states_long g.S.Source.list g.S.Source.counts g.S.Source.at_hand c.args.slots.now in
+    let after = states_of g.S.Source.list g.S.Source.counts g.S.Source.calls g.S.Source.at_hand c.args.slots.now in
+    let long = states_long g.S.Source.list g.S.Source.counts g.S.Source.calls g.S.Source.at_hand c.args.slots.now in
     let situation = situated settings counts readies before after crew c.rejoin.new.pass c.rejoin.new.draws.1 c.close.result c.close-states.result c.use_all.new.uses.items can
     c.rejoin.ensures.joined c.rejoin.ensures.drawn c.close.ensures
     (subst (λ feeds. AreClosed crew.pool c.rejoin.new.pass feeds c.close-states.result) c.from_vec.ensures c.close-states.ensures)
@@ -71,8 +71,8 @@ make-requires-clause-endings g c =
 pub returns-clause-batch : goal.returns-clause-batch
 returns-clause-batch g c settings counts readies before can =
     let crew = c.args.crew in
-    let after = states_of g.S.Source.list g.S.Source.counts g.S.Source.at_hand c.args.slots.now in
-    let long = states_long g.S.Source.list g.S.Source.counts g.S.Source.at_hand c.args.slots.now in
+    let after = states_of g.S.Source.list g.S.Source.counts g.S.Source.calls g.S.Source.at_hand c.args.slots.now in
+    let long = states_long g.S.Source.list g.S.Source.counts g.S.Source.calls g.S.Source.at_hand c.args.slots.now in
     let situation = situated settings counts readies before after crew c.rejoin.new.pass c.rejoin.new.draws.1 c.close.result c.close-states.result c.use_all.new.uses.items can
     c.rejoin.ensures.joined c.rejoin.ensures.drawn c.close.ensures
     (subst (λ feeds. AreClosed crew.pool c.rejoin.new.pass feeds c.close-states.result) c.from_vec.ensures c.close-states.ensures)

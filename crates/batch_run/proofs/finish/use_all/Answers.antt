@@ -10,7 +10,7 @@ loop-source-preserved g c =
     let many = c.requires.states in
     record {
       filled = omega (arith, c.push_reserved.ensures.len, inv.filled);
-      each = uses_more g.S.Source.list g.S.Source.counts g.S.Source.at_hand c.args.states.now c.args.slots.now c.loop-source.uses.items c.push_reserved.new.self.items c.loop-source.source c.index-slots-source.result
+      each = uses_more g.S.Source.list g.S.Source.counts g.S.Source.calls g.S.Source.at_hand c.args.states.now c.args.slots.now c.loop-source.uses.items c.push_reserved.new.self.items c.loop-source.source c.index-slots-source.result
           c.used.result (omega (arith, inv.filled, c.loop-source.uses.ok.0)) (omega (arith, test, end, many)) inv.each c.used.ensures c.push_reserved.ensures.items;
       room = omega (arith, c.push_reserved.ensures.capacity, inv.room);
     }

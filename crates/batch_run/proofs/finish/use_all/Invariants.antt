@@ -9,6 +9,6 @@ abbrev pub invariant-loop-source : goal.invariant-loop-source
 invariant-loop-source g l = record {
   filled : vec_len l.uses ≡ l.source;
   each : (source : ℕ) → source < l.source
-      → UsedOf (state_at l.states source) (slot_at (states_of g.S.Source.list g.S.Source.counts g.S.Source.at_hand l.slots) source).fetched (use_at l.uses.items source);
+      → UsedOf (state_at l.states source) (slot_at (states_of g.S.Source.list g.S.Source.counts g.S.Source.calls g.S.Source.at_hand l.slots) source).fetched (use_at l.uses.items source);
   room : length l.slots ≤ vec_capacity l.uses;
 }

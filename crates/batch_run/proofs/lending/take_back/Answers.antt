@@ -6,9 +6,9 @@ use Rattle.batch_run.proofs.lending.take_back.Goals as goal
 pub loop-place-preserved : goal.loop-place-preserved
 loop-place-preserved g c = record {
   back = subst
-      (λ (slot : Slot g.row.S.Denot). BackTo g.S.Source.list g.S.Source.counts g.S.Source.at_hand (c.loop-place.place + 1) c.args.slots.now.items
+      (λ (slot : Slot g.row.S.Denot). BackTo g.S.Source.list g.S.Source.counts g.S.Source.calls g.S.Source.at_hand (c.loop-place.place + 1) c.args.slots.now.items
       (slice_set c.loop-place.slots.items c.loop-place.place (record slot { feeder = c.take.new.self })) c.push_reserved.new.self.items) (sym c.index_mut.ensures.value)
-      (back_more g.S.Source.list g.S.Source.counts g.S.Source.at_hand c.loop-place.place c.args.slots.now.items c.loop-place.slots.items c.loop-place.feeders.items c.push_reserved.new.self.items
+      (back_more g.S.Source.list g.S.Source.counts g.S.Source.calls g.S.Source.at_hand c.loop-place.place c.args.slots.now.items c.loop-place.slots.items c.loop-place.feeders.items c.push_reserved.new.self.items
       c.unwrap-feeder.result c.take.result c.take.new.self c.index_mut.result.now
       (c.take.ensures.value ∙ ap (λ (slot : Slot g.row.S.Denot). slot.feeder) c.index_mut.ensures.value)
       (omega (arith, c.loop-place-test.true, c.loop-place.slots.ok.0, c.len-place-end.ensures)) c.unwrap-feeder.ensures
@@ -18,12 +18,12 @@ loop-place-preserved g c = record {
 
 pub returns-clause-back : goal.returns-clause-back
 returns-clause-back g c =
-    back_all g.S.Source.list g.S.Source.counts g.S.Source.at_hand c.loop-place.place c.args.slots.now.items c.loop-place.slots.items c.loop-place.feeders.items
+    back_all g.S.Source.list g.S.Source.counts g.S.Source.calls g.S.Source.at_hand c.loop-place.place c.args.slots.now.items c.loop-place.slots.items c.loop-place.feeders.items
     (omega (arith, c.loop-place-test.false, c.len-place-end.ensures, c.args.slots.now.ok.0))
     (omega (arith, c.loop-place.auto.place-end, c.len-place-end.ensures, c.args.slots.now.ok.0)) c.loop-place.invariant.back
 
 pub returns-clause-empty : goal.returns-clause-empty
 returns-clause-empty g c =
-    back_empty g.S.Source.list g.S.Source.counts g.S.Source.at_hand c.loop-place.place c.args.slots.now.items c.loop-place.slots.items c.loop-place.feeders.items
+    back_empty g.S.Source.list g.S.Source.counts g.S.Source.calls g.S.Source.at_hand c.loop-place.place c.args.slots.now.items c.loop-place.slots.items c.loop-place.feeders.items
     (omega (arith, c.loop-place-test.false, c.len-place-end.ensures, c.args.slots.now.ok.0))
     c.loop-place.invariant.back
