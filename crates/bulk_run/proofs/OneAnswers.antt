@@ -18,7 +18,7 @@ use Rattle.batch_result.specs.Numbered.{counts_at}
 use Rattle.batch_result.specs.Batches.{BatchState, BatchRun, run_of, IsBatch}
 use Rattle.batch_result.specs.Tables.{lists_for, TellsTables, EndsOver}
 use Rattle.bulk_run.specs.declared.input.BulkInput.{BulkInput}
-use Rattle.bulk_run.specs.Held.{Held, fresh_slot, told_rows, counts_of, version_of}
+use Rattle.bulk_run.specs.Held.{Held, fresh_slot, told_rows, counts_of, calls_of, version_of}
 use Rattle.bulk_run.specs.Sums.{table_of, query_of}
 use Rattle.bulk_run.specs.Endings.{IsMadeReady, AreMadeReady, EndsInOne, AllEndInOne}
 use Rattle.bulk_run.proofs.Readying.{made_lists, all_have_tables}
@@ -46,7 +46,7 @@ not_rose before now none rose = omega (arith, none, rose)
 
 tells_tables : (input : BulkInput) (settings : Settings) (counts : List ℕ) (readies : List Ready) (before now : List (Slot Held))
     → AreMadeReady input readies → before ≡ map fresh_slot (table_of input)
-    → TellsTables (run_of told_rows counts_of version_of settings counts readies before now) (table_of input)
+    → TellsTables (run_of told_rows counts_of calls_of version_of settings counts readies before now) (table_of input)
 tells_tables input settings counts readies before now are fresh = record {
   told = ap (λ (slots : List (Slot Held)). map (λ slot. told_rows slot.source) slots) fresh ∙ table_told input.start input.count input.lists;
   tables = all_have_tables input readies are;
@@ -97,7 +97,7 @@ ToldTablesGiveTheOneEnding = (run : BatchRun) (batch : BatchState) (lists : List
 -- how a batch of made queries over the sources of their table ended
 pub ran_in_one : (input : BulkInput) (settings : Settings) (counts : List ℕ) (readies : List Ready) (before now : List (Slot Held)) (batch : BatchState)
     → AreMadeReady input readies → before ≡ map fresh_slot (table_of input) → ToldTablesGiveTheOneEnding
-    → IsBatch (run_of told_rows counts_of version_of settings counts readies before now) batch → AllEndInOne input batch.endings
+    → IsBatch (run_of told_rows counts_of calls_of version_of settings counts readies before now) batch → AllEndInOne input batch.endings
 ran_in_one input settings counts readies before now batch are fresh law ran =
     all_in_one input (range_with_len 0 input.queries) readies batch.endings are
-    (law (run_of told_rows counts_of version_of settings counts readies before now) batch (table_of input) ran (tells_tables input settings counts readies before now are fresh))
+    (law (run_of told_rows counts_of calls_of version_of settings counts readies before now) batch (table_of input) ran (tells_tables input settings counts readies before now are fresh))

@@ -26,7 +26,7 @@ use Rattle.batch_result.specs.Numbered.{counts_at}
 use Rattle.batch_result.specs.Tables.{lists_for}
 use Rattle.batch_result.proofs.Places.{map_at}
 use Rattle.bulk_run.specs.declared.input.BulkInput.{BulkInput}
-use Rattle.bulk_run.specs.Held.{Held, counts_of, fresh_slot, told_rows, version_of}
+use Rattle.bulk_run.specs.Held.{Held, calls_of, counts_of, fresh_slot, told_rows, version_of}
 use Rattle.bulk_run.specs.Sums.{IsInput, query_of, table_of}
 use Rattle.bulk_run.specs.Endings.{AreMadeReady, IsMadeReady}
 use Rattle.bulk_run.specs.Reads.{AreReadSparingly, IsReadSparingly, made_reading, made_readings}
@@ -104,7 +104,7 @@ module _ (input : BulkInput) (settings : Settings) (counts : List ℕ) (readies 
     (are_settings : AreSettings settings) (counted : counts ≡ replicate input.lists input.count) (made : AreMadeReady input readies)
     (fresh : before ≡ map fresh_slot (table_of input)) (same : map (λ (slot : Slot Held). told_rows slot.source) now ≡ map (λ (slot : Slot Held). told_rows slot.source) before) where
   abbrev R : BatchRun
-  R = run_of told_rows counts_of version_of settings counts readies before now
+  R = run_of told_rows counts_of calls_of version_of settings counts readies before now
 
   as_many : length now ≡ length counts
   as_many =
@@ -151,7 +151,7 @@ module _ (input : BulkInput) (settings : Settings) (counts : List ℕ) (readies 
   -- where all queries ended
   pub ran_sparingly : ToldTablesBound → (batch : BatchState) → IsBatch R batch → AreReadSparingly input settings now
   ran_sparingly law batch ran =
-      read_by ran.queries ran.states batch.uses (record { many = ran.many; closing = ran.closing; served = ran.served; used = ran.used })
+      read_by ran.queries ran.states batch.uses (record { many = ran.many; closing = ran.closing; served = ran.served; used = ran.used; called = ran.called })
       (λ source l. law R batch ran (table_of input) told (all_have_tables input readies made) source l)
 
 -- ---- nothing was read yet

@@ -3,6 +3,7 @@ use Rattle.std.specs.Prelude.{◌≤◌, ℕ, List, [], Option, None, length, Al
 use Rattle.std.specs.List.{slice_index_or}
 use Rattle.ranked_list.specs.declared.row.Row.{Row}
 use Rattle.source_api.specs.declared.counts.Counts.{Counts}
+use Rattle.source_api.specs.Calls.{Call}
 use Rattle.source_api.specs.Told.{HasEachOnce, IsGrade, told_of}
 use Rattle.source_api.specs.EachOnce.{told_law}
 use Rattle.fetcher.specs.declared.slot.Slot.{Slot}
@@ -35,6 +36,10 @@ told_once held = told_law None [] held.rows
 -- what it has counted: no call of it ever failed, was garbled or met a replaced list
 abbrev pub counts_of : Held → Counts
 counts_of held = record { faults = 0; garbles = 0; moves = 0; rows_given = held.rows_given; grades_given = held.grades_given }
+
+-- it doesn't tell its calls
+abbrev pub calls_of : Held → Option (List Call)
+calls_of held = None
 
 -- its list is never replaced, so that its version stays 0
 abbrev pub version_of : Held → ℕ
