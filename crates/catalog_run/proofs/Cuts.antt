@@ -6,6 +6,7 @@ use Rattle.std.proofs.lemmas.List.Elements.{All-nil}
 use Rattle.ranked_list.specs.declared.row.Row.{Row}
 use Rattle.source_api.specs.declared.counts.Counts.{Counts}
 use Rattle.source_api.specs.Counting.{NoneFell, no_counts}
+use Rattle.source_api.specs.Calls.{Call}
 use Rattle.source_api.specs.Told.{HasEachOnce}
 use Rattle.query_core.specs.declared.ready.Ready.{Ready as ReadyQuery}
 use Rattle.query_admission.specs.View.{View}
@@ -45,7 +46,7 @@ all_of (ready ∷ readies) (q ∷ queries) h = (h.0, all_of readies queries h.1)
 
 pub cut_whole : (run : BatchRun) (batch : BatchState) → IsBatch run batch → IsCut run
 cut_whole run batch ran =
-    let read : IsReadBy run ran.queries ran.states batch.uses = record { many = ran.many; closing = ran.closing; served = ran.served; used = ran.used } in
+    let read : IsReadBy run ran.queries ran.states batch.uses = record { many = ran.many; closing = ran.closing; served = ran.served; used = ran.used; called = ran.called } in
     record {
       stood = map Some ran.queries;
       states = ran.states;
@@ -57,10 +58,10 @@ cut_whole run batch ran =
 -- ---- over the lines
 
 -- all lines were admitted
-pub cut_over : (settings : Settings) (s : Sources) (before now : List Counts) (view : View) (lines : List (List ℕ)) (outcomes : List (Option LineOutcome))
+pub cut_over : (settings : Settings) (s : Sources) (before now : List Counts) (made calls : List (Option (List Call))) (view : View) (lines : List (List ℕ)) (outcomes : List (Option LineOutcome))
     (readies : List ReadyQuery) → length before ≡ length s.told → AllZip NoneFell before now → AreAdmitted view 1 lines outcomes readies
-    → IsCut (batch_over settings s before now readies) → CutOver settings s before now view lines
-cut_over settings s before now view lines outcomes readies many later are cut = record {
+    → IsCut (batch_over settings s before now made calls readies) → CutOver settings s before now made calls view lines
+cut_over settings s before now made calls view lines outcomes readies many later are cut = record {
   many = many;
   later = later;
   admitted = length lines;
@@ -71,56 +72,58 @@ cut_over settings s before now view lines outcomes readies many later are cut = 
 }
 
 -- sources of which nothing had been read were open when the lines began; lines were admitted only after this
-abbrev pub StopsOver : Settings → Sources → List Counts → View → List (List ℕ) → Type 0 → Type 0
-StopsOver settings s now view lines First =
-    (before : List Counts) × All IsUnread before × (cut : CutOver settings s before now view lines) × (0 < cut.admitted → First)
+abbrev pub StopsOver : Settings → Sources → List Counts → List (Option (List Call)) → View → List (List ℕ) → Type 0 → Type 0
+StopsOver settings s now calls view lines First =
+    (before : List Counts) × (made : List (Option (List Call))) × All IsUnread before × (cut : CutOver settings s before now made calls view lines) × (0 < cut.admitted → First)
 
-module _ {S : Type 0} (list : S → Option (List Row)) (counts : S → Counts) (at_hand : S → ℕ) where
+module _ {S : Type 0} (list : S → Option (List Row)) (counts : S → Counts) (calls : S → Option (List Call)) (at_hand : S → ℕ) where
   -- no line was admitted, and nothing was read
   abbrev cut_unread : (settings : Settings) (slots : List (Slot S)) (places sizes : List ℕ) (view : View) (lines : List (List ℕ))
       → ((s : S) → IfSome (list s) HasEachOnce) → length sizes ≡ length slots → All (λ size. size ≤ 200000) sizes
-      → CutOver settings (sources_in list at_hand slots places sizes) (map (of_slot counts) slots) (map (of_slot counts) slots) view lines
+      → CutOver settings (sources_in list at_hand slots places sizes) (map (of_slot counts) slots) (map (of_slot counts) slots) (map (of_slot calls) slots) (map (of_slot calls) slots) view lines
   cut_unread settings slots places sizes view lines once many small = record {
     many = length-map slots (of_slot counts) ∙ sym (length-map slots (of_slot list));
-    later = counts_same list counts at_hand slots;
+    later = counts_same list counts calls at_hand slots;
     admitted = 0;
     outcomes = [];
     readies = [];
     are = refl;
-    cut = cut_uncalled list counts at_hand settings sizes [] slots once many small;
+    cut = cut_uncalled list counts calls at_hand settings sizes [] slots once many small;
   }
 
   -- so memory ran out before the first was
   pub stops_unread : (settings : Settings) (slots : List (Slot S)) (places sizes : List ℕ) (view : View) (lines : List (List ℕ)) (First : Type 0)
       → ((s : S) → IfSome (list s) HasEachOnce) → length sizes ≡ length slots → All (λ size. size ≤ 200000) sizes → All IsUnread (map (of_slot counts) slots)
-      → StopsOver settings (sources_in list at_hand slots places sizes) (map (of_slot counts) slots) view lines First
+      → StopsOver settings (sources_in list at_hand slots places sizes) (map (of_slot counts) slots) (map (of_slot calls) slots) view lines First
   stops_unread settings slots places sizes view lines First once many small unread =
-      (map (of_slot counts) slots, unread, cut_unread settings slots places sizes view lines once many small, λ some. let none : 0 < 0 = some in absurd (omega (arith, none)))
+      (map (of_slot counts) slots, map (of_slot calls) slots, unread, cut_unread settings slots places sizes view lines once many small, λ some. let none : 0 < 0 = some in absurd (omega (arith, none)))
 
   pub reads_unread : (settings : Settings) (slots : List (Slot S)) (places sizes : List ℕ) (view : View) (lines : List (List ℕ))
       → ((s : S) → IfSome (list s) HasEachOnce) → length sizes ≡ length slots → All (λ size. size ≤ 200000) sizes
-      → CutOver settings (sources_in list at_hand slots places sizes) (map (of_slot counts) slots) (map (of_slot counts) slots) view lines
+      → CutOver settings (sources_in list at_hand slots places sizes) (map (of_slot counts) slots) (map (of_slot counts) slots) (map (of_slot calls) slots) (map (of_slot calls) slots) view lines
   reads_unread = cut_unread
 
 -- ---- the run
 
 pub cut_run : (catalog : List Entry) (lines : List (List ℕ)) (lists : List ℕ → Option (List Row)) (versions : List ℕ → Option ℕ) (settings : Settings)
-    (before mid after : Counted) (openings : List Opening) (s : Sources) (now : List Counts)
+    (before mid after : Counted) (openings : List Opening) (s : Sources) (now : List Counts) (calls : List (Option (List Call)))
     → AreOpened lists versions catalog (IsWanted catalog lines) before mid openings s → ((place : List ℕ) → GivesNothing (before place) (mid place))
-    → StopsOver settings s now (view_over catalog openings nothing_told) lines ((length openings ≡ length catalog) × AsksWantedOnce catalog lines before mid)
+    → StopsOver settings s now calls (view_over catalog openings nothing_told) lines ((length openings ≡ length catalog) × AsksWantedOnce catalog lines before mid)
     → PutsBack (reverse (put_back catalog s.places now)) mid after
     → RanOutOfMemory (record { catalog = catalog; lines = lines; lists = lists; versions = versions; settings = settings; before = before; after = after })
-cut_run catalog lines lists versions settings before mid after openings s now are idle stops back = record {
+cut_run catalog lines lists versions settings before mid after openings s now calls are idle stops back = record {
   openings = openings;
   sources = s;
   mid = mid;
   idle = idle;
   opened = are;
   begun = stops.0;
-  unread = stops.1;
+  unread = stops.2;
   now = now;
-  read = stops.2;
-  first = stops.3;
+  made = stops.1;
+  calls = calls;
+  read = stops.3;
+  first = stops.4;
   back = back;
 }
 
@@ -129,8 +132,8 @@ pub cut_closed : (catalog : List Entry) (lines : List (List ℕ)) (lists : List 
     (before after : Counted) → AreOpened lists versions catalog (IsWanted catalog lines) before after [] no_sources → ((place : List ℕ) → GivesNothing (before place) (after place))
     → RanOutOfMemory (record { catalog = catalog; lines = lines; lists = lists; versions = versions; settings = settings; before = before; after = after })
 cut_closed catalog lines lists versions settings before after closed idle =
-    cut_run catalog lines lists versions settings before after after [] no_sources [] closed idle
-    (stops_unread (λ (n : ℕ). None) (λ (n : ℕ). no_counts) (λ (n : ℕ). 0) settings [] [] [] (view_over catalog [] nothing_told) lines _ (λ n. tt) refl
+    cut_run catalog lines lists versions settings before after after [] no_sources [] [] closed idle
+    (stops_unread (λ (n : ℕ). None) (λ (n : ℕ). no_counts) (λ (n : ℕ). None) (λ (n : ℕ). 0) settings [] [] [] (view_over catalog [] nothing_told) lines _ (λ n. tt) refl
     (All-nil (λ size. size ≤ 200000)) none_unread)
     (record { texts = λ place. refl; takes = λ place. refl; taken = λ place. refl; returned = λ place. refl; sources = λ place. refl })
 

@@ -3,6 +3,7 @@ use Rattle.std.proofs.Common.{◌≡◌, ℕ, ◌<◌, Bool, List, ◌++◌, All
 use Rattle.std.proofs.lemmas.List.{ext_get_or, get_or_default}
 use Rattle.ranked_list.specs.declared.row.Row.{Row}
 use Rattle.source_api.specs.declared.counts.Counts.{Counts}
+use Rattle.source_api.specs.Calls.{Call}
 use Rattle.catalog_text.specs.Catalog.{Listed as Entry}
 use Rattle.catalog_open.specs.declared.opened.Opening.{Opening}
 use Rattle.catalog_open.specs.declared.opened.Opening.TheVariants.{Closed, Open}
@@ -68,12 +69,12 @@ back_keeps lists versions catalog W before mid now openings s are back =
 
 -- the whole run
 pub is_run : (catalog : List Entry) (lines : List (List ℕ)) (lists : List ℕ
-    → Option (List Row)) (versions : List ℕ → Option ℕ) (settings : Settings) (before mid after : Counted) (openings : List Opening) (s : Sources) (begun now : List Counts) (outcomes : List LineOutcome)
+    → Option (List Row)) (versions : List ℕ → Option ℕ) (settings : Settings) (before mid after : Counted) (openings : List Opening) (s : Sources) (begun now : List Counts) (made calls : List (Option (List Call))) (outcomes : List LineOutcome)
     → AreOpened lists versions catalog (IsWanted catalog lines) before mid openings s → length openings ≡ length catalog → AsksWantedOnce catalog lines before mid
     → ((place : List ℕ) → GivesNothing (before place) (mid place)) → All IsUnread begun
-    → RanOver settings s begun now (view_over catalog openings nothing_told) lines outcomes → PutsBack (reverse (put_back catalog s.places now)) mid after
+    → RanOver settings s begun now made calls (view_over catalog openings nothing_told) lines outcomes → PutsBack (reverse (put_back catalog s.places now)) mid after
     → IsRun (record { catalog = catalog; lines = lines; lists = lists; versions = versions; settings = settings; before = before; after = after }) outcomes
-is_run catalog lines lists versions settings before mid after openings s begun now outcomes are all once idle unread ran back = record {
+is_run catalog lines lists versions settings before mid after openings s begun now made calls outcomes are all once idle unread ran back = record {
   openings = openings;
   sources = s;
   mid = mid;
@@ -84,6 +85,8 @@ is_run catalog lines lists versions settings before mid after openings s begun n
   begun = begun;
   unread = unread;
   now = now;
+  made = made;
+  calls = calls;
   ran = ran;
   back = back;
 }

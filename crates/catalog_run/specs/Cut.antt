@@ -3,6 +3,7 @@ use Rattle.std.specs.Prelude.{◌≡◌, ◌<◌, ℕ, Option, List, All, length
 use Rattle.std.specs.List.{AllZip}
 use Rattle.source_api.specs.declared.counts.Counts.{Counts}
 use Rattle.source_api.specs.Counting.{NoneFell}
+use Rattle.source_api.specs.Calls.{Call}
 use Rattle.query_core.specs.declared.ready.Ready.{Ready}
 use Rattle.query_admission.specs.View.{View}
 use Rattle.query_admission.specs.declared.line_outcome.LineOutcome.{LineOutcome}
@@ -18,14 +19,15 @@ use Rattle.catalog_run.specs.Runs.{CatalogRun, AsksWantedOnce}
 
 -- memory ran out for the lines when the first so many of them were admitted: by then those of their queries that are ready, each once, had read the open
 -- sources, no count of which fell, as queries of a batch do that ran out of memory, and no other query had
-pub record CutOver (settings : Settings) (s : Sources) (begun now : List Counts) (view : View) (lines : List (List ℕ)) : Type 0 where
+pub record CutOver (settings : Settings) (s : Sources) (begun now : List Counts) (made calls : List (Option (List Call))) (view : View)
+    (lines : List (List ℕ)) : Type 0 where
   pub many : length begun ≡ length s.told
   pub later : AllZip NoneFell begun now
   pub admitted : ℕ
   pub outcomes : List (Option LineOutcome)
   pub readies : List Ready
   pub are : AreAdmitted view 1 (take admitted lines) outcomes readies
-  pub cut : IsCut (batch_over settings s begun now readies)
+  pub cut : IsCut (batch_over settings s begun now made calls readies)
 
 -- a run that ran out of memory: sources that the lines want were opened, which reads nothing of them; lines were admitted, and read the open sources, only
 -- once each wanted source was asked for; then the open sources were put back with what they had counted
@@ -38,6 +40,8 @@ pub record RanOutOfMemory (r : CatalogRun) : Type 0 where
   pub begun : List Counts
   pub unread : All IsUnread begun
   pub now : List Counts
-  pub read : CutOver r.settings sources begun now (view_over r.catalog openings nothing_told) r.lines
+  pub made : List (Option (List Call))
+  pub calls : List (Option (List Call))
+  pub read : CutOver r.settings sources begun now made calls (view_over r.catalog openings nothing_told) r.lines
   pub first : 0 < read.admitted → (length openings ≡ length r.catalog) × AsksWantedOnce r.catalog r.lines r.before mid
   pub back : PutsBack (reverse (put_back r.catalog sources.places now)) mid r.after

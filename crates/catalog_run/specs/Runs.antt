@@ -4,6 +4,7 @@ use Rattle.std.specs.List.{AllZip}
 use Rattle.ranked_list.specs.declared.row.Row.{Row}
 use Rattle.source_api.specs.declared.counts.Counts.{Counts}
 use Rattle.source_api.specs.Counting.{NoneFell}
+use Rattle.source_api.specs.Calls.{Call}
 use Rattle.query_core.specs.declared.ready.Ready.{Ready}
 use Rattle.query_admission.specs.View.{View}
 use Rattle.query_admission.specs.Causes.{line_over}
@@ -68,8 +69,8 @@ pub record CatalogRun : Type 0 where
 
 -- the queries of the lines that are ready ran as one batch over the open sources, no count of which fell, and the lines have the outcomes that follow from
 -- how they ended
-pub record RanOver (settings : Settings) (s : Sources) (begun now : List Counts) (view : View) (lines : List (List ℕ))
-    (outcomes : List LineOutcome) : Type 0 where
+pub record RanOver (settings : Settings) (s : Sources) (begun now : List Counts) (made calls : List (Option (List Call))) (view : View)
+    (lines : List (List ℕ)) (outcomes : List LineOutcome) : Type 0 where
   pub many : length begun ≡ length s.told
   pub later : AllZip NoneFell begun now
   pub readies : List Ready
@@ -77,7 +78,7 @@ pub record RanOver (settings : Settings) (s : Sources) (begun now : List Counts)
   pub ready : All (IsReadyFor s.counts) readies
   pub versions : All (HasVersions s.versions) readies
   pub batch : BatchState
-  pub ran : IsBatch (batch_over settings s begun now readies) batch
+  pub ran : IsBatch (batch_over settings s begun now made calls readies) batch
   pub outcomes_are : AreOutcomes view ran.queries 1 lines outcomes
 
 -- the source of each entry that a line wants was asked for exactly once, and that of no other
@@ -101,5 +102,7 @@ pub record IsRun (r : CatalogRun) (outcomes : List LineOutcome) : Type 0 where
   pub begun : List Counts
   pub unread : All IsUnread begun
   pub now : List Counts
-  pub ran : RanOver r.settings sources begun now (view_over r.catalog openings nothing_told) r.lines outcomes
+  pub made : List (Option (List Call))
+  pub calls : List (Option (List Call))
+  pub ran : RanOver r.settings sources begun now made calls (view_over r.catalog openings nothing_told) r.lines outcomes
   pub back : PutsBack (reverse (put_back r.catalog sources.places now)) mid r.after

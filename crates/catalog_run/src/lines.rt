@@ -137,9 +137,11 @@ fn run_opened<W: Threads + Wait + Sync, S: Source>(
     ensures free { All IsIdle sources.new.slots.items }
     ensures ran { (lines : List (List ℕ)) → AreRead lines read.items → IfOk result (λ outcomes. RanOver settings
         (sources_of S.list S.at_hand sources.old) (map (of_slot S.counts) sources.old.slots.items) (map (of_slot S.counts) sources.new.slots.items)
+        (map (of_slot S.calls) sources.old.slots.items) (map (of_slot S.calls) sources.new.slots.items)
         (view_over catalog.now sources.old.openings.items nothing_told) lines outcomes.items) }
     ensures cut { (lines : List (List ℕ)) → AreRead lines read.items → OnErr result (CutOver settings (sources_of S.list S.at_hand sources.old)
         (map (of_slot S.counts) sources.old.slots.items) (map (of_slot S.counts) sources.new.slots.items)
+        (map (of_slot S.calls) sources.old.slots.items) (map (of_slot S.calls) sources.new.slots.items)
         (view_over catalog.now sources.old.openings.items nothing_told) lines) }
     ensures writable { IfOk result (λ outcomes. All CanBeWritten outcomes.items) }
 {

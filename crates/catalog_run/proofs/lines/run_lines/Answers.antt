@@ -92,6 +92,8 @@ returns g c =
     let b = c.put_back_all.ensures in
     let begun = map (of_slot g.H.Item.Source.counts) i.sources.slots.items in
     let now = map (of_slot g.H.Item.Source.counts) r.new.sources.slots.items in
+    let made = map (of_slot g.H.Item.Source.calls) i.sources.slots.items in
+    let calls = map (of_slot g.H.Item.Source.calls) r.new.sources.slots.items in
     let places = ap (λ (s : Sources). s.places) r.ensures.same in
     let back = subst (λ ps. PutsBack (reverse (put_back catalog ps now)) mid after) places b.moves in
     let many = length-map r.new.sources.slots.items (of_slot g.H.Item.Source.counts) ∙ sym (length-map r.new.sources.slots.items (of_slot g.H.Item.Source.list))
@@ -105,10 +107,10 @@ returns g c =
       moves = run_moves lists versions catalog (IsWanted catalog lines) before mid after i.sources.openings.items _ now many opened back;
       few = few_put catalog lines _ before mid after (o.few lines read) back;
       run = IfOk-weaker r.result _ _
-          (λ outcomes ran. is_run catalog lines lists versions c.args.settings before mid after i.sources.openings.items _ begun now outcomes.items opened i.ensures.ready.all once o.idle
+          (λ outcomes ran. is_run catalog lines lists versions c.args.settings before mid after i.sources.openings.items _ begun now made calls outcomes.items opened i.ensures.ready.all once o.idle
           i.ensures.ready.unread ran back) (r.ensures.ran lines c.in-Ok.ensures);
       cut = on_err_weaker r.result
-          (λ cut. cut_run catalog lines lists versions c.args.settings before mid after i.sources.openings.items _ now opened o.idle
-          (begun, i.ensures.ready.unread, cut, λ some. (i.ensures.ready.all, once)) back) (r.ensures.cut lines c.in-Ok.ensures);
+          (λ cut. cut_run catalog lines lists versions c.args.settings before mid after i.sources.openings.items _ now calls opened o.idle
+          (begun, made, i.ensures.ready.unread, cut, λ some. (i.ensures.ready.all, once)) back) (r.ensures.cut lines c.in-Ok.ensures);
       writable = r.ensures.writable;
     }

@@ -61,7 +61,7 @@ returns-in_default g c =
       free = c.requires.free;
       ran = λ lines read. tt;
       cut = λ lines read.
-          reads_unread g.S.Source.list g.S.Source.counts g.S.Source.at_hand c.args.settings c.args.sources.now.slots.items c.args.sources.now.places.items c.args.sources.now.counts.items
+          reads_unread g.S.Source.list g.S.Source.counts g.S.Source.calls g.S.Source.at_hand c.args.settings c.args.sources.now.slots.items c.args.sources.now.places.items c.args.sources.now.counts.items
           (view_over c.args.catalog.now c.args.sources.now.openings.items nothing_told) lines
           ((g.met.S.Source g.world.𝓛 g.world.𝓜 g.world.𝓡 ((λ s x. x), (λ x. x), (λ x. x), λ x. x)).distinct)
           (o.5.many_counts ∙ sym o.5.many_told ∙ length-map c.args.sources.now.slots.items (of_slot g.S.Source.list)) o.5.small;
@@ -72,6 +72,8 @@ pub returns-in_default-run_all : goal.returns-in_default-run_all
 returns-in_default-run_all g c =
     let begun = map (of_slot g.S.Source.counts) c.args.sources.now.slots.items in
     let now = map (of_slot g.S.Source.counts) c.run_all.new.sources.items in
+    let made = map (of_slot g.S.Source.calls) c.args.sources.now.slots.items in
+    let calls = map (of_slot g.S.Source.calls) c.run_all.new.sources.items in
     let sources = sources_of g.S.Source.list g.S.Source.at_hand c.args.sources.now in
     let readies = c.in-Ok.admissions.readies.items in
     let outcomes = c.in-Ok.admissions.outcomes.items in
@@ -80,10 +82,10 @@ returns-in_default-run_all g c =
       free = c.run_all.ensures.empty;
       ran = λ lines read. tt;
       cut = λ lines read.
-          cut_over c.args.settings sources begun now (view_over c.args.catalog.now c.args.sources.now.openings.items nothing_told) lines outcomes readies
+          cut_over c.args.settings sources begun now made calls (view_over c.args.catalog.now c.args.sources.now.openings.items nothing_told) lines outcomes readies
           (as_many (of_slot g.S.Source.counts) (of_slot g.S.Source.list) c.args.sources.now.slots.items) c.run_all.ensures.later
           (subst (λ os. AreAdmitted (view_over c.args.catalog.now os nothing_told) 1 lines outcomes readies) c.deref.ensures.value (c.in-Ok.ensures lines read))
-          (subst IsCut (same_batch c.args.settings sources c.deref-2.result.now begun now c.deref-3.result.now readies c.deref-2.ensures.value c.deref-3.ensures.value)
+          (subst IsCut (same_batch c.args.settings sources c.deref-2.result.now begun now made calls c.deref-3.result.now readies c.deref-2.ensures.value c.deref-3.ensures.value)
           c.in_default-run_all.ensures.cut);
       writable = tt;
     }
@@ -94,6 +96,8 @@ returns g c =
     let at = c.requires.read in
     let begun = map (of_slot g.S.Source.counts) c.args.sources.now.slots.items in
     let now = map (of_slot g.S.Source.counts) c.run_all.new.sources.items in
+    let made = map (of_slot g.S.Source.calls) c.args.sources.now.slots.items in
+    let calls = map (of_slot g.S.Source.calls) c.run_all.new.sources.items in
     let sources = sources_of g.S.Source.list g.S.Source.at_hand c.args.sources.now in
     let readies = c.in-Ok.admissions.readies.items in
     let admitted = c.in-Ok.admissions.outcomes.items in
@@ -101,7 +105,7 @@ returns g c =
     let openings = c.args.sources.now.openings.items in
     let view = view_over c.args.catalog.now openings nothing_told in
     let ran = subst (λ (run : BatchRun). IsBatch run batch)
-    (same_batch c.args.settings sources c.deref-2.result.now begun now c.deref-3.result.now readies c.deref-2.ensures.value c.deref-3.ensures.value) c.in-Ok-run_all.ensures.batch in
+    (same_batch c.args.settings sources c.deref-2.result.now begun now made calls c.deref-3.result.now readies c.deref-2.ensures.value c.deref-3.ensures.value) c.in-Ok-run_all.ensures.batch in
     let ends = subst (AllZip EndsAs ran.queries) (sym c.into_endings.ensures) ran.ends in
     let right = subst (AllZip IsRight readies) (sym c.into_endings.ensures) ran.right in
     let are = λ (lines : List (List ℕ)) (read : AreRead lines c.args.read.items). subst (λ os. AreAdmitted (view_over c.args.catalog.now os nothing_told) 1 lines admitted readies) c.deref.ensures.value (c.in-Ok.ensures lines read) in
@@ -125,8 +129,8 @@ returns g c =
           }) (c.end_lines.ensures view lines ran.queries own ran.of ends right);
       cut = λ lines read.
           if_short c.end_lines.result
-          (cut_over c.args.settings sources begun now view lines admitted readies many c.run_all.ensures.later (are lines read)
-          (cut_whole (batch_over c.args.settings sources begun now readies) batch ran));
+          (cut_over c.args.settings sources begun now made calls view lines admitted readies many c.run_all.ensures.later (are lines read)
+          (cut_whole (batch_over c.args.settings sources begun now made calls readies) batch ran));
       writable = IfOk-weaker c.end_lines.result _ _ (λ outcomes ended. can_be_written view ran.states ran.queries 1 at.0 outcomes.items ran.served ended)
           (c.end_lines.ensures view at.0 ran.queries (are at.0 at.1) ran.of ends right);
     }
