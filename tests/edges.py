@@ -311,6 +311,12 @@ def memory_of_node(program: str) -> str | None:
     return starved_program(program, ["node", "catalog.csv", "price"], nodes.SIZE, wanted)
 
 
+def memory_of_server(program: str) -> str | None:
+    """Each allocation of `serve` refused in turn."""
+    command = ["serve", "catalog.csv", "--workers", "1"]
+    return starved_program(program, command, request(LINES[0]), whole(body(LINES[0])))
+
+
 def replies_of_the_page(program: str) -> str | None:
     """`serve` and `node` over the lists of the certificate's page: each reply to the byte."""
     head = " HTTP/1.1\r\nHost: h\r\n\r\n"
@@ -348,7 +354,8 @@ def cut_certificate(program: str) -> str | None:
 def tests() -> Iterator[tuple[str, Callable[[str], str | None]]]:
     """Each test with its name."""
     for test in (other_address, sizes_side_by_side, repeat_without_host, dial_gives_up, link_gives_up,
-                 lists_come_back, each_call_of_server, each_call_of_node, memory_of_node, replies_of_the_page):
+                 lists_come_back, each_call_of_server, each_call_of_node, memory_of_node, memory_of_server,
+                 replies_of_the_page):
         yield f"edges_{test.__name__}", over_network(test)
     for test in (read_once, grades_of_file, cut_certificate):
         yield f"edges_{test.__name__}", test

@@ -110,13 +110,14 @@ def restart(program: str) -> str | None:
 
 
 def few_threads(program: str) -> str | None:
-    """A server that gets no further thread once it has one for its workers' side, or one of the next six, answers each
-    line with one worker and with four: its workers fetch for themselves. No clause says that a thread gets on, so a
-    worker that only sleeps until a fetcher told it would be proved as well: this test refuses it."""
+    """A server that gets no thread, or no further one after one of the first eleven, answers each line with one worker
+    and with four: its workers fetch for themselves, and where there is no thread for them the server takes one link and
+    serves it. No clause says that a thread gets on, so a worker that only sleeps until a fetcher told it, or a port that
+    waits for workers who come after it, would be proved as well: this test refuses them."""
     with tempfile.TemporaryDirectory() as place:
         before = built(place, "sharing")
         # Threads are counted over all: opening the four lists makes four, and the fifth is that of the workers' side.
-        for threads, workers in itertools.product(range(6, 13), ("1", "4")):
+        for threads, workers in itertools.product(range(1, 13), ("1", "4")):
             env = dict(os.environ, LD_PRELOAD=before, SHARING_THREADS=str(threads))
             command = [program, "serve", "catalog.csv", "--conns", str(MANY), "--workers", workers]
             with begun(command, DATA, env=env) as (port, _):

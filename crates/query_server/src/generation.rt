@@ -8,7 +8,7 @@ ghost use Rattle.query_server.specs.Reopening.{AsksSome, IsAtHand, ReopensAll};
 ghost use Rattle.query_server.specs.Serving.{KeepsSources, KeepsVersions, Leaves, WereReopened};
 
 use super::counting::counts_of;
-use super::lifetime::{MIN_PAUSE, lifetime_of, pause_after};
+use super::lifetime::{lifetime_of, pause_after};
 use super::queue::LinkQueue;
 use super::reopening::entries_again;
 use super::sides::serve_sides;
@@ -141,7 +141,7 @@ fn serve_once<W: Threads + Wait + Sync, S: Source, L: Link + Send + Drop>(
     Ok(Some(changed))
 }
 
-/// Generations one after another, until no more links come.
+/// Generations one after another, until no more links come in this round. The next round goes on with the pause.
 fn serve_generations<W: Threads + Wait + Clock + Sync, S: Source, L: Link + Send + Drop>(
     rt: &W,
     alloc: Global,
@@ -149,6 +149,7 @@ fn serve_generations<W: Threads + Wait + Clock + Sync, S: Source, L: Link + Send
     slots: &mut Vec<Slot<S>>,
     queue: &LinkQueue<L>,
     settings: Settings,
+    pause: &mut u64,
 ) -> Result<(), Memory>
     requires settings { AreSettings settings }
     requires few { length slots.old.items < 2 ^ 32 }
@@ -158,21 +159,20 @@ fn serve_generations<W: Threads + Wait + Clock + Sync, S: Source, L: Link + Send
     ensures left { Leaves S.list S.counts S.calls S.at_hand slots.old.items slots.new.items catalog.old catalog.new }
     ensures at_hand { OnOk result (All (IsAtHand S.at_hand slots.new.items) catalog.new.entries) }
 {
-    let mut pause = MIN_PAUSE;
     for _ in rt.forever() {
-        queue.resume(rt, lifetime_of(catalog.entries(), pause));
         let Ok(more) = serve_once(rt, alloc, catalog, slots, queue, settings) else {
             return Err(Memory);
         };
         let Some(changed) = more else {
             return Ok(());
         };
-        pause = pause_after(changed, pause);
+        *pause = pause_after(changed, *pause);
+        queue.resume(rt, lifetime_of(catalog.entries(), *pause));
     }
     Ok(())
 }
 
-/// The side of the workers and the fetchers. It tells whether memory ran out: then nobody takes links any more.
+/// The side of the workers and the fetchers, for a round. It tells whether memory ran out: then nobody takes links any more.
 pub(crate) fn serve_side<W: Threads + Wait + Clock + Sync, S: Source, L: Link + Send + Drop>(
     rt: &W,
     alloc: Global,
@@ -180,6 +180,7 @@ pub(crate) fn serve_side<W: Threads + Wait + Clock + Sync, S: Source, L: Link + 
     slots: &mut Vec<Slot<S>>,
     queue: &LinkQueue<L>,
     settings: Settings,
+    pause: &mut u64,
 ) -> bool
     requires settings { AreSettings settings }
     requires few { length slots.old.items < 2 ^ 32 }
@@ -189,7 +190,8 @@ pub(crate) fn serve_side<W: Threads + Wait + Clock + Sync, S: Source, L: Link + 
     ensures left { Leaves S.list S.counts S.calls S.at_hand slots.old.items slots.new.items catalog.old catalog.new }
     ensures at_hand { result ≡ false → All (IsAtHand S.at_hand slots.new.items) catalog.new.entries }
 {
-    let served = serve_generations(rt, alloc, catalog, slots, queue, settings);
+    queue.begin(rt);
+    let served = serve_generations(rt, alloc, catalog, slots, queue, settings, pause);
     if served.is_err() {
         queue.leave(rt);
         return true;

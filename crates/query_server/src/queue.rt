@@ -3,18 +3,21 @@
 use super::waiting::Waiting;
 use std::alloc::Global;
 use std::sync::{Condvar, Mutex, Wait};
-use std::time::Clock;
+use std::time::{Clock, Duration};
 use topk_base::Memory;
 
+/// For how many milliseconds who puts links in waits for somebody to begin to take them.
+const PATIENCE_MILLIS: u64 = 100;
+
 /// Links that were accepted and that no worker took yet. The side that has the port puts them in, and waits while the queue is full;
-/// workers take them, and wait while it is empty and more may come.
+/// workers take them, and wait while it is empty and more may come. It serves in rounds, mostly in one: links come until the round is ended.
 ///
 /// A link that went through the queue is known by its type alone: who takes it learns nothing of what it was when it was put in.
 pub struct LinkQueue<L: Send + Drop> {
     waiting: Mutex<Waiting<L>>,
     /// A link came, or none is to be waited for.
     came: Condvar,
-    /// A link went, or none is to be put in any more.
+    /// A link went, somebody has begun to take links, or none is to be put in any more.
     went: Condvar,
 }
 
@@ -41,6 +44,32 @@ impl<L: Send + Drop> LinkQueue<L> {
         })
     }
 
+    /// Says that a round begins: links come again, and nobody takes them yet.
+    pub fn renew(&self, rt: &impl Wait) {
+        let mut guard = self.waiting.lock(rt);
+        let waiting = &mut *guard;
+        waiting.renew();
+    }
+
+    /// Says that somebody takes links from now on.
+    pub fn begin(&self, rt: &impl Wait) {
+        let mut guard = self.waiting.lock(rt);
+        let waiting = &mut *guard;
+        waiting.begin();
+        self.went.notify_all();
+    }
+
+    /// Whether somebody has begun to take links in this round. It waits for that, but not for long.
+    pub fn has_begun<R: Wait + Clock>(&self, rt: &R) -> bool {
+        let patience = Duration::from_millis(PATIENCE_MILLIS);
+        let (_guard, wait) = self
+            .went
+            .wait_timeout_while(rt, self.waiting.lock(rt), patience, |waiting| {
+                !waiting.has_begun()
+            });
+        !wait.timed_out()
+    }
+
     /// Puts a link in, once there is room. False where nobody takes links any more: then it is dropped. Where the time since `resume` is over,
     /// no link is taken from now on, as after `pause`.
     pub fn put<R: Wait + Clock>(&self, rt: &R, link: L) -> bool {
@@ -57,7 +86,7 @@ impl<L: Send + Drop> LinkQueue<L> {
         put
     }
 
-    /// Says that no more links come. Those that wait are still taken.
+    /// Says that no more links come in this round. Those that wait are still taken.
     pub fn end(&self, rt: &impl Wait) {
         let mut guard = self.waiting.lock(rt);
         let waiting = &mut *guard;

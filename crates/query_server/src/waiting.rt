@@ -8,14 +8,16 @@ use std::collections::VecDeque;
 use std::time::{Clock, Duration, Instant};
 use topk_base::Memory;
 
-/// Links that wait for a worker, the first one first, never more than there is room for; whether more may come; and whether
-/// they may be taken.
+/// Links that wait for a worker, the first one first, never more than there is room for; whether more may come; whether somebody takes
+/// them; and whether they may be taken.
 #[derive(Drop)]
 pub(crate) struct Waiting<L> {
     links: VecDeque<L>,
     room: usize,
-    /// No more links come.
+    /// No more links come in this round.
     ended: bool,
+    /// Somebody has begun to take links in this round.
+    begun: bool,
     /// No link is taken for now.
     paused: bool,
     /// Until when links may be taken, if not for ever.
@@ -36,6 +38,7 @@ impl<L: Drop> Waiting<L> {
             links,
             room,
             ended: false,
+            begun: false,
             paused: false,
             until: None,
             left: false,
@@ -55,6 +58,31 @@ impl<L: Drop> Waiting<L> {
     /// Whether nobody knows yet that there is one more link, or that none comes.
     pub(crate) fn is_unsure(&self) -> bool {
         !self.ended && self.links.is_empty()
+    }
+
+    /// Whether somebody has begun to take links in this round.
+    pub(crate) fn has_begun(&self) -> bool
+        ensures { result ≡ self.now.begun }
+    {
+        self.begun
+    }
+
+    /// A round begins: links come again, and nobody takes them yet.
+    pub(crate) fn renew(&mut self)
+        ensures begun { self.new.begun ≡ false }
+        ensures ended { self.new.ended ≡ false }
+        ensures links { self.new.links.items ≡ self.old.links.items }
+    {
+        self.begun = false;
+        self.ended = false;
+    }
+
+    /// Somebody takes links from now on.
+    pub(crate) fn begin(&mut self)
+        ensures begun { self.new.begun ≡ true }
+        ensures links { self.new.links.items ≡ self.old.links.items }
+    {
+        self.begun = true;
     }
 
     /// Puts a link behind the others. False where there is no room, or nobody takes links any more: then the link is dropped.
@@ -82,7 +110,7 @@ impl<L: Drop> Waiting<L> {
         self.links.pop_front()
     }
 
-    /// No more links come.
+    /// No more links come in this round.
     pub(crate) fn end(&mut self)
         ensures { self.new.links.items ≡ self.old.links.items }
     {
