@@ -63,7 +63,7 @@ fn accept_side<R: Wait + Clock, P: Port>(
 }
 
 /// A round of a server: at most so many links are accepted on one side and served on the other. Where the system makes no thread for the workers
-/// they serve the one link that was accepted once the other side has ended.
+/// they serve the one link that was accepted, once the other side has ended.
 #[tactic(auto, using(crate::proofs::TakingLaws::asked_some))]
 fn serve_round<W: Threads + Wait + Clock + Sync, S: Source, P: Port>(
     rt: &W,
