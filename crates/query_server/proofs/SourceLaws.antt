@@ -29,10 +29,10 @@ module _ {S : Type 0} (list : S → Option (List Row)) (counts : S → Counts) w
   }
 
   -- what the fetchers did between the lending of the feeders and their return
-  pub keeps_fetched : (at_hand : S → ℕ) (pool : List TableId) (settings : Settings) (feeds ends : List Feed) (before lent fetched after : List (Slot S))
-      → AreLent list counts at_hand feeds before lent → AllFetch list counts at_hand pool settings lent fetched → AreTakenBack list counts at_hand fetched ends after
+  pub keeps_fetched : (calls : S → Option (List Call)) (at_hand : S → ℕ) (pool : List TableId) (settings : Settings) (feeds ends : List Feed) (before lent fetched after : List (Slot S))
+      → AreLent list counts calls at_hand feeds before lent → AllFetch list counts calls at_hand pool settings lent fetched → AreTakenBack list counts calls at_hand fetched ends after
       → KeepsSources list counts before after
-  keeps_fetched at_hand pool settings feeds ends before lent fetched after given fetch back =
+  keeps_fetched calls at_hand pool settings feeds ends before lent fetched after given fetch back =
       let there : (i : ℕ) → i < length before → i < length lent = λ i l. let e = given.size in omega (arith, e, l) in
       let then_ : (i : ℕ) → i < length before → i < length fetched = λ i l. let e = fetch.size in let t = there i l in omega (arith, e, t) in
       record {
@@ -46,10 +46,10 @@ module _ {S : Type 0} (list : S → Option (List Row)) (counts : S → Counts) w
       }
 
   -- and that they left the versions at hand
-  pub versions_fetched : (at_hand : S → ℕ) (pool : List TableId) (settings : Settings) (feeds ends : List Feed) (before lent fetched after : List (Slot S))
-      → AreLent list counts at_hand feeds before lent → AllFetch list counts at_hand pool settings lent fetched → AreTakenBack list counts at_hand fetched ends after
+  pub versions_fetched : (calls : S → Option (List Call)) (at_hand : S → ℕ) (pool : List TableId) (settings : Settings) (feeds ends : List Feed) (before lent fetched after : List (Slot S))
+      → AreLent list counts calls at_hand feeds before lent → AllFetch list counts calls at_hand pool settings lent fetched → AreTakenBack list counts calls at_hand fetched ends after
       → KeepsVersions at_hand before after
-  versions_fetched at_hand pool settings feeds ends before lent fetched after given fetch back =
+  versions_fetched calls at_hand pool settings feeds ends before lent fetched after given fetch back =
       let there : (i : ℕ) → i < length before → i < length lent = λ i l. let e = given.size in omega (arith, e, l) in
       let then_ : (i : ℕ) → i < length before → i < length fetched = λ i l. let e = fetch.size in let t = there i l in omega (arith, e, t) in
       record {

@@ -146,7 +146,7 @@ pub(crate) fn serve_sides<W: Threads + Wait + Sync, S: Source, L: Link + Send + 
     requires many { length slots.old.items ≡ length pool.now }
     requires few { (length workers.old.items ≤ 32) × (length slots.old.items < 2 ^ 32) }
     requires workers { All (λ worker. MayAnswer catalog.now pool.now worker.pass) workers.old.items }
-    ensures { AllFetch S.list S.counts S.at_hand pool.now settings slots.old.items slots.new.items }
+    ensures { AllFetch S.list S.counts S.calls S.at_hand pool.now settings slots.old.items slots.new.items }
 {
     let Some((table, mut handles)) = open_sides(alloc, pool, workers, slots, settings) else {
         return Err(Memory);

@@ -152,7 +152,7 @@ module _ (r : CatalogRun) (outcomes : List LineOutcome) (run : IsRun r outcomes)
       let has_table : HasQueryTable lists q =
       subst (λ n. IsTable n (lists_of lists q)) (sym (of.goes.count ∙ of.begun.count)) (subst (IsTable ready.count) same table) in
       subst (λ E. AgreesWith E (state_of q.machine).log) (sym same)
-      (told_agrees lists b.states q (states_sound (batch_over r.settings run.sources run.begun run.now run.ran.readies) run.ran.batch b) served has_table
+      (told_agrees lists b.states q (states_sound (batch_over r.settings run.sources run.begun run.now run.made run.calls run.ran.readies) run.ran.batch b) served has_table
       (λ list l. tells_own q admitted.lists D list tell sources served l))
     where
       tells_own : (q : RunningQuery) (ls : List ListInfo) (D : List (List Row)) (list : ℕ) → TellRows run.sources.told ls D

@@ -110,7 +110,7 @@ pub gave_sparingly : OneRunsBound → AnswersBound → GradesAloneGiveNoRow → 
     → source < length run.sources.places
     → GaveSparingly r outcomes run source (size_at run.sources.counts source) (counts_at run.now source)
 gave_sparingly one_runs answers no_row r outcomes run source within =
-    let over : BatchRun = batch_over r.settings run.sources run.begun run.now run.ran.readies in
+    let over : BatchRun = batch_over r.settings run.sources run.begun run.now run.made run.calls run.ran.readies in
     record {
       asked = gave_what_is_asked r outcomes run source within;
       unread = λ none. gives_no_row no_row r outcomes run source within none;
@@ -129,7 +129,7 @@ cut_gave_sparingly bound no_row r cut source within =
     let b = cut.read.cut in
     let at = cut_numbered r cut source within in
     let closing = b.read.closing source at.0 in
-    let over : BatchRun = batch_over r.settings cut.sources cut.begun cut.now cut.read.readies in
+    let over : BatchRun = batch_over r.settings cut.sources cut.begun cut.now cut.made cut.calls cut.read.readies in
     record {
       asked = cut_gave_what_is_asked r cut source within;
       unread = λ none. cut_gives_no_row no_row r cut source within none;

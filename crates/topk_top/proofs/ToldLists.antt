@@ -355,7 +355,7 @@ module _ (r : CatalogRun) (outcomes : List LineOutcome) (run : IsRun r outcomes)
       query_table m.0 q m.2 (has_lists own.at own.bytes m.0 own.line own.admitted))
 
   -- no list was replaced while the lines ran
-  none_moved : NoneMoved (batch_over r.settings run.sources run.begun run.now run.ran.readies)
+  none_moved : NoneMoved (batch_over r.settings run.sources run.begun run.now run.made run.calls run.ran.readies)
   none_moved source l rose =
       let there : source < length run.sources.counts = l in
       let up : Rose (counts_at run.begun source).moves (counts_at run.now source).moves = rose in
@@ -371,4 +371,4 @@ module _ (r : CatalogRun) (outcomes : List LineOutcome) (run : IsRun r outcomes)
       (rose_moves _ run.mid r.after text _ run.back (counted_back r.catalog run.sources.places run.now source within inside) some))
 
   pub on_their_runs : QueriesAreOnTheirRuns → All (IsOnItsRun lists_told) run.ran.ran.queries
-  on_their_runs law = law (batch_over r.settings run.sources run.begun run.now run.ran.readies) run.ran.batch run.ran.ran lists_told (sym are_told) none_moved tables
+  on_their_runs law = law (batch_over r.settings run.sources run.begun run.now run.made run.calls run.ran.readies) run.ran.batch run.ran.ran lists_told (sym are_told) none_moved tables

@@ -119,7 +119,7 @@ gives_no_row law r outcomes run source within none =
     let b = run.ran.ran in
     let at = numbered r outcomes run source within in
     let alone = all_by_grades r (of_run r outcomes run) run.ran.readies source none run.ran.own in
-    let used = law (batch_over r.settings run.sources run.begun run.now run.ran.readies) run.ran.batch b source at.0 alone in
+    let used = law (batch_over r.settings run.sources run.begun run.now run.made run.calls run.ran.readies) run.ran.batch b source at.0 alone in
     none_given (use_at run.ran.batch.uses source).rows (counts_at run.begun source).rows_given (counts_at run.now source).rows_given used.1
     (run.unread source no_counts at.1).rows (b.used source at.0).rows
 
@@ -130,6 +130,6 @@ cut_gives_no_row law r cut source within none =
     let b = cut.read.cut in
     let at = cut_numbered r cut source within in
     let alone = all_by_grades r (of_cut r cut) cut.read.readies source none (cut_own r cut) in
-    let used = law (batch_over r.settings cut.sources cut.begun cut.now cut.read.readies) b source at.0 alone in
+    let used = law (batch_over r.settings cut.sources cut.begun cut.now cut.made cut.calls cut.read.readies) b source at.0 alone in
     none_given (use_at b.uses source).rows (counts_at cut.begun source).rows_given (counts_at cut.now source).rows_given used.1
     (cut.unread source no_counts at.1).rows (b.read.used source at.0).rows

@@ -9,10 +9,10 @@ serve_sides-served-requires-clause-workers g c κs within =
 
 pub returns-clause-kept : goal.returns-clause-kept
 returns-clause-kept g c =
-    keeps_fetched g.S.Source.list g.S.Source.counts g.S.Source.at_hand c.args.crew.now.pool c.args.settings c.args.crew.now.feeders.items c.take_back.new.feeders.items c.args.slots.now.items
+    keeps_fetched g.S.Source.list g.S.Source.counts g.S.Source.calls g.S.Source.at_hand c.args.crew.now.pool c.args.settings c.args.crew.now.feeders.items c.take_back.new.feeders.items c.args.slots.now.items
     c.lend.new.slots.items c.serve_sides-served.new.slots.items c.take_back.new.slots.items c.lend.ensures.lent c.serve_sides-served.ensures c.take_back.ensures.back
 
 pub returns-clause-versions : goal.returns-clause-versions
 returns-clause-versions g c =
-    versions_fetched g.S.Source.list g.S.Source.counts g.S.Source.at_hand c.args.crew.now.pool c.args.settings c.args.crew.now.feeders.items c.take_back.new.feeders.items
+    versions_fetched g.S.Source.list g.S.Source.counts g.S.Source.calls g.S.Source.at_hand c.args.crew.now.pool c.args.settings c.args.crew.now.feeders.items c.take_back.new.feeders.items
     c.args.slots.now.items c.lend.new.slots.items c.serve_sides-served.new.slots.items c.take_back.new.slots.items c.lend.ensures.lent c.serve_sides-served.ensures c.take_back.ensures.back
