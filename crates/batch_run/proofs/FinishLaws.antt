@@ -1,4 +1,4 @@
--- From what a crew did to a batch.
+-- From what a worker pool did to a batch.
 use Rattle.std.proofs.Common.{◌≡◌, ◌≤◌, ◌<◌, ◌+◌, ◌-◌, ◌*◌, ◌^◌, ◌⊎◌, inl, inr, ℕ, suc, min, max, Bool, true, false, nat_lt, Option, Some, None, List, [], ◌∷◌, ◌++◌, length, map, All, Contains, IfSome, count_by, slice_index, slice_index_or, unwrap_or, refl, sym, ap, subst, ◌∙◌, arith}
 use Rattle.std.specs.List.{AllZip, flat_map, sum_by}
 use Rattle.std.specs.Prelude.{if◌then◌else◌}
@@ -54,14 +54,14 @@ use Rattle.topk_base.specs.Ranges.{AreSettings}
 use Rattle.batch_result.specs.Numbered.{told_at, version_at, counts_at, calls_at}
 use Rattle.batch_result.specs.declared.batch.Use.{Use}
 use Rattle.batch_run.specs.declared.work.Worker.{Worker}
-use Rattle.batch_run.specs.declared.hire.Crew.{Crew}
+use Rattle.batch_run.specs.declared.worker_pool.WorkerPool.{WorkerPool}
 use Rattle.batch_result.specs.Using.{is_refused_for, IsWantedBy, IsNamedBy, all_grades_on, IsUsed, HasCounted}
 use Rattle.batch_result.specs.Refusing.{IsRefusedByTurns}
 use Rattle.batch_result.specs.Batches.{batch_of, use_at, IsClosing, IsSpared, IsBatch}
 use Rattle.batch_result.specs.Cut.{IsReadBy, IsOfBegun, begun, IsCut}
 use Rattle.batch_run.specs.Working.{End, IsEndOf, IsStood, Run, IsRunOf, ended_at, ended_of, places_of, stood_of, HasWorked}
 use Rattle.batch_run.specs.Slots.{SlotState, slot_at}
-use Rattle.batch_run.specs.Crews.{IsBase, IsFirst, HasLeft, HasFetched, Rejoins}
+use Rattle.batch_run.specs.WorkerPools.{IsBase, IsFirst, HasLeft, HasFetched, Rejoins}
 use Rattle.batch_run.specs.Finishing.{UsedOf, slots_run, CanFinish}
 use Rattle.batch_result.proofs.AccountLaws.{asks_on}
 use Rattle.batch_result.proofs.Places.{map_at, stands_at}
@@ -351,14 +351,14 @@ pub record Situation (pool : List TableId) (tickets : TableId) (settings : Setti
   pub used : (source : ℕ) → source < length counts → UsedOf (state_at states source) (slot_at after source).fetched (use_at uses source)
   pub once : (number : ℕ) → sum_by (λ (w : Worker). times number w.draws.1.drawn) workers ≤ 1
 
--- a crew that has run, whose passes were joined and whose pool was closed
-pub situated : (settings : Settings) (counts : List ℕ) (readies : List Ready) (before after : List SlotState) (crew : Crew) (pass : List Hold) (draws : Draws) (next : ℕ)
-    (states : List State) (uses : List Use) → CanFinish settings counts readies before after crew → Rejoins crew.pool (passes crew.workers.items) crew.pass pass
-    → ((number : ℕ) → times number draws.drawn ≡ times number crew.draws.1.drawn + sum_by (λ (w : Worker). times number w.draws.1.drawn) crew.workers.items)
-    → ((number : ℕ) → times number draws.drawn ≡ drawn_before next number) → AreClosed crew.pool pass crew.feeders.items states → length uses ≡ length after
+-- a worker pool that has run, whose passes were joined and whose pool was closed
+pub situated : (settings : Settings) (counts : List ℕ) (readies : List Ready) (before after : List SlotState) (worker_pool : WorkerPool) (pass : List Hold) (draws : Draws) (next : ℕ)
+    (states : List State) (uses : List Use) → CanFinish settings counts readies before after worker_pool → Rejoins worker_pool.pool (passes worker_pool.workers.items) worker_pool.pass pass
+    → ((number : ℕ) → times number draws.drawn ≡ times number worker_pool.draws.1.drawn + sum_by (λ (w : Worker). times number w.draws.1.drawn) worker_pool.workers.items)
+    → ((number : ℕ) → times number draws.drawn ≡ drawn_before next number) → AreClosed worker_pool.pool pass worker_pool.feeders.items states → length uses ≡ length after
     → ((source : ℕ) → source < length after → UsedOf (state_at states source) (slot_at after source).fetched (use_at uses source))
-    → Situation crew.pool crew.tickets settings counts readies before after crew.workers.items crew.pass pass crew.feeders.items states uses
-situated settings counts readies before after crew pass draws next states uses can rejoins drawn closed shut many used = record {
+    → Situation worker_pool.pool worker_pool.tickets settings counts readies before after worker_pool.workers.items worker_pool.pass pass worker_pool.feeders.items states uses
+situated settings counts readies before after worker_pool pass draws next states uses can rejoins drawn closed shut many used = record {
   settings_are = can.settings_are;
   size = can.ran.size;
   few = can.few.0;
@@ -371,8 +371,8 @@ situated settings counts readies before after crew pass draws next states uses c
   uses_many = many ∙ can.ran.slots.1;
   used = λ source l. used source (let e = can.ran.slots.1 in omega (arith, l, e));
   once = λ number.
-      once_by (sum_by (λ (w : Worker). times number w.draws.1.drawn) crew.workers.items) (times number draws.drawn) (times number draws.drawn) (drawn_before next number)
-      (sum_alone (times number draws.drawn) (times number crew.draws.1.drawn) (sum_by (λ (w : Worker). times number w.draws.1.drawn) crew.workers.items) (drawn number)
+      once_by (sum_by (λ (w : Worker). times number w.draws.1.drawn) worker_pool.workers.items) (times number draws.drawn) (times number draws.drawn) (drawn_before next number)
+      (sum_alone (times number draws.drawn) (times number worker_pool.draws.1.drawn) (sum_by (λ (w : Worker). times number w.draws.1.drawn) worker_pool.workers.items) (drawn number)
       (ap (times number) can.ran.first.none)) (omega arith) (closed number) (once_at_most next number);
 }
   where

@@ -17,7 +17,7 @@ use Rattle.source_pool.specs.Passes.{hold_at, IsPassOf}
 use Rattle.source_pool.specs.Sharing.{IsJoined}
 use Rattle.query_run.specs.declared.ended.Ended.{Ended}
 use Rattle.batch_run.specs.declared.work.Worker.{Worker}
-use Rattle.batch_run.specs.Crews.{Rejoins}
+use Rattle.batch_run.specs.WorkerPools.{Rejoins}
 use Rattle.batch_result.proofs.LaterLaws.{follows_on}
 
 rejoins_none : (pool : List TableId) (before : List Hold) → IsPassOf pool before → Rejoins pool [] before before

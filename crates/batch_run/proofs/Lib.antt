@@ -6,11 +6,11 @@ pub mod AtPlaces
 pub mod WorkLaws
 -- Lemmas on who has passes to the slot table, and on what was served at a slot.
 pub mod HandleLaws
--- Lemmas on a crew: its workers, what the fetchers did of the slots, and passes that are joined.
-pub mod CrewLaws
+-- Lemmas on a worker pool: its workers, what the fetchers did of the slots, and passes that are joined.
+pub mod WorkerLaws
 pub mod SlotLaws
 pub mod JoinLaws
--- Lemmas on what a crew that has run gives.
+-- Lemmas on what a worker pool that has run gives.
 pub mod GatherLaws
 pub mod UseLaws
 pub mod FinishLaws

@@ -1,4 +1,4 @@
--- A crew that has run, and lists and counts of the slots.
+-- A worker pool that has run, and lists and counts of the slots.
 use Rattle.std.proofs.Common.{◌≡◌, ◌<◌, ℕ, suc, Option, Result, Ok, Err, OnErr, List, [], ◌∷◌, length, map, refl, sym, ap, subst, ◌∙◌, arith}
 use Rattle.std.specs.List.{AllZip}
 use Rattle.ranked_list.specs.declared.row.Row.{Row}
@@ -10,11 +10,11 @@ use Rattle.topk_base.specs.declared.settings.Settings.{Settings}
 use Rattle.query_core.specs.declared.ready.Ready.{Ready}
 use Rattle.batch_run.specs.Slots.{SlotState, state_of, states_of, slot_at, AllFetch, AreLent, AreTakenBack}
 use Rattle.batch_run.specs.Working.{AllWorked}
-use Rattle.batch_run.proofs.CrewLaws.{ran_parts}
+use Rattle.batch_run.proofs.WorkerLaws.{ran_parts}
 use Rattle.batch_run.proofs.SlotLaws.{all_fetched}
 use Rattle.batch_result.specs.Batches.{run_of}
-use Rattle.batch_run.specs.declared.hire.Crew.{Crew}
-use Rattle.batch_run.specs.Crews.{HasRun, IsNewCrew}
+use Rattle.batch_run.specs.declared.worker_pool.WorkerPool.{WorkerPool}
+use Rattle.batch_run.specs.WorkerPools.{HasRun, IsNewWorkerPool}
 use Rattle.batch_run.specs.Finishing.{slots_run}
 
 module _ {S : Type 0} (list : S → Option (List Row)) (counts : S → Counts) (calls : S → Option (List Call)) (at_hand : S → ℕ) where
@@ -97,17 +97,17 @@ failed_so (Ok x) f h = tt
 failed_so (Err e) f h = f h
 
 module _ {S : Type 0} (list : S → Option (List Row)) (counts : S → Counts) (calls : S → Option (List Call)) (at_hand : S → ℕ) where
-  -- a new crew has run once its feeders were lent, its workers worked, and its feeders were taken back
-  pub has_run : (settings : Settings) (sizes : List ℕ) (readies : List Ready) (crew now : Crew) (before lent fetched after : List (Slot S))
-      → IsNewCrew sizes (length readies) settings.workers crew → length sizes ≡ length before
-      → AreLent list counts calls at_hand crew.feeders.items before lent → AllFetch list counts calls at_hand crew.pool settings lent fetched
+  -- a new worker pool has run once its feeders were lent, its workers worked, and its feeders were taken back
+  pub has_run : (settings : Settings) (sizes : List ℕ) (readies : List Ready) (worker_pool now : WorkerPool) (before lent fetched after : List (Slot S))
+      → IsNewWorkerPool sizes (length readies) settings.workers worker_pool → length sizes ≡ length before
+      → AreLent list counts calls at_hand worker_pool.feeders.items before lent → AllFetch list counts calls at_hand worker_pool.pool settings lent fetched
       → AreTakenBack list counts calls at_hand fetched now.feeders.items after
-      → AllWorked crew.pool crew.tickets readies crew.workers.items now.workers.items
-      → now ≡ record crew { feeders = now.feeders; workers = now.workers }
+      → AllWorked worker_pool.pool worker_pool.tickets readies worker_pool.workers.items now.workers.items
+      → now ≡ record worker_pool { feeders = now.feeders; workers = now.workers }
       → HasRun settings sizes readies (states_of list counts calls at_hand before) (states_of list counts calls at_hand after) now
-  has_run settings sizes readies crew now before lent fetched after new many given fetch back worked same =
-      let all = all_fetched list counts calls at_hand crew.pool settings sizes crew.feeders.items now.feeders.items before lent fetched after new.hiring.base.size many given fetch back new.fed in
-      let parts = ran_parts settings sizes readies crew.pool crew.tickets crew.pass crew.draws crew.workers.items now.workers.items new.hiring new.size worked in
+  has_run settings sizes readies worker_pool now before lent fetched after new many given fetch back worked same =
+      let all = all_fetched list counts calls at_hand worker_pool.pool settings sizes worker_pool.feeders.items now.feeders.items before lent fetched after new.new_workers.base.size many given fetch back new.fed in
+      let parts = ran_parts settings sizes readies worker_pool.pool worker_pool.tickets worker_pool.pass worker_pool.draws worker_pool.workers.items now.workers.items new.new_workers new.size worked in
       subst (HasRun settings sizes readies (states_of list counts calls at_hand before) (states_of list counts calls at_hand after)) (sym same)
       (record {
         base = parts.base;
@@ -124,26 +124,26 @@ module _ {S : Type 0} (list : S → Option (List Row)) (counts : S → Counts) (
 
 module _ {S : Type 0} (list : S → Option (List Row)) (counts : S → Counts) (calls : S → Option (List Call)) (at_hand : S → ℕ) where
   -- what a run keeps of the sources
-  pub kept_lists : (settings : Settings) (sizes : List ℕ) (readies : List Ready) (old new : List (Slot S)) (crew : Crew)
-      → HasRun settings sizes readies (states_of list counts calls at_hand old) (states_of list counts calls at_hand new) crew
+  pub kept_lists : (settings : Settings) (sizes : List ℕ) (readies : List Ready) (old new : List (Slot S)) (worker_pool : WorkerPool)
+      → HasRun settings sizes readies (states_of list counts calls at_hand old) (states_of list counts calls at_hand new) worker_pool
       → map (λ (slot : Slot S). list slot.source) new ≡ map (λ (slot : Slot S). list slot.source) old
-  kept_lists settings sizes readies old new crew ran =
+  kept_lists settings sizes readies old new worker_pool ran =
       slots_lists list counts calls at_hand old new
       (parts_stay list counts calls at_hand (λ (s : SlotState). s.told) (states_of list counts calls at_hand old) (states_of list counts calls at_hand new) (ran.slots.0 ∙ sym ran.slots.1)
       (λ source l. (ran.fetched source (subst (λ n. source < n) ran.slots.0 l)).told))
 
-  pub kept_versions : (settings : Settings) (sizes : List ℕ) (readies : List Ready) (old new : List (Slot S)) (crew : Crew)
-      → HasRun settings sizes readies (states_of list counts calls at_hand old) (states_of list counts calls at_hand new) crew
+  pub kept_versions : (settings : Settings) (sizes : List ℕ) (readies : List Ready) (old new : List (Slot S)) (worker_pool : WorkerPool)
+      → HasRun settings sizes readies (states_of list counts calls at_hand old) (states_of list counts calls at_hand new) worker_pool
       → map (λ (slot : Slot S). at_hand slot.source) new ≡ map (λ (slot : Slot S). at_hand slot.source) old
-  kept_versions settings sizes readies old new crew ran =
+  kept_versions settings sizes readies old new worker_pool ran =
       slots_versions list counts calls at_hand old new
       (parts_stay list counts calls at_hand (λ (s : SlotState). s.version) (states_of list counts calls at_hand old) (states_of list counts calls at_hand new) (ran.slots.0 ∙ sym ran.slots.1)
       (λ source l. (ran.fetched source (subst (λ n. source < n) ran.slots.0 l)).version))
 
-  pub kept_counts : (settings : Settings) (sizes : List ℕ) (readies : List Ready) (old new : List (Slot S)) (crew : Crew)
-      → HasRun settings sizes readies (states_of list counts calls at_hand old) (states_of list counts calls at_hand new) crew
+  pub kept_counts : (settings : Settings) (sizes : List ℕ) (readies : List Ready) (old new : List (Slot S)) (worker_pool : WorkerPool)
+      → HasRun settings sizes readies (states_of list counts calls at_hand old) (states_of list counts calls at_hand new) worker_pool
       → AllZip NoneFell (map (λ (slot : Slot S). counts slot.source) old) (map (λ (slot : Slot S). counts slot.source) new)
-  kept_counts settings sizes readies old new crew ran =
+  kept_counts settings sizes readies old new worker_pool ran =
       slots_counts list counts calls at_hand old new
       (none_fell list counts calls at_hand (states_of list counts calls at_hand old) (states_of list counts calls at_hand new) (ran.slots.0 ∙ sym ran.slots.1)
       (λ source l. (ran.fetched source (subst (λ n. source < n) ran.slots.0 l)).later))

@@ -19,7 +19,7 @@ use Rattle.batch_result.specs.Using.{IsReplaced}
 use Rattle.topk_base.specs.declared.settings.Settings.{Settings}
 use Rattle.workers.specs.Sides.{HasFeeder}
 use Rattle.batch_run.specs.Slots.{SlotState, state_of, states_of, slot_at, Fetches, AllFetch, AreLent, AreTakenBack}
-use Rattle.batch_run.specs.Crews.{HasFetched}
+use Rattle.batch_run.specs.WorkerPools.{HasFetched}
 use Rattle.batch_result.proofs.Places.{map_at, stands_at}
 
 -- what one fetcher did, and that its feeder is idle

@@ -1,4 +1,4 @@
--- What the batch gives, once its crew has run.
+-- What the batch gives, once its worker pool has run.
 use Rattle.std.specs.Prelude.{◌≡◌, ◌<◌, ◌^◌, ℕ, List, length, map}
 use Rattle.source_state.specs.State.{State}
 use Rattle.query_core.specs.declared.ready.Ready.{Ready}
@@ -6,10 +6,10 @@ use Rattle.fetcher.specs.declared.turned.Fetched.{Fetched}
 use Rattle.topk_base.specs.declared.settings.Settings.{Settings}
 use Rattle.topk_base.specs.Ranges.{AreSettings}
 use Rattle.batch_result.specs.declared.batch.Use.{Use}
-use Rattle.batch_run.specs.declared.hire.Crew.{Crew}
+use Rattle.batch_run.specs.declared.worker_pool.WorkerPool.{WorkerPool}
 use Rattle.batch_result.specs.Batches.{BatchRun}
 use Rattle.batch_run.specs.Slots.{SlotState}
-use Rattle.batch_run.specs.Crews.{HasRun}
+use Rattle.batch_run.specs.WorkerPools.{HasRun}
 
 -- what was used of a source, by its closing state and what was fetched
 pub record UsedOf (s : State) (fetched : Fetched) (used : Use) : Type 0 where
@@ -32,8 +32,8 @@ slots_run settings counts readies before after = record {
   calls = map (λ slot. slot.calls) after;
 }
 
--- a crew has run these queries
-pub record CanFinish (settings : Settings) (counts : List ℕ) (readies : List Ready) (before after : List SlotState) (crew : Crew) : Type 0 where
+-- a worker pool has run these queries
+pub record CanFinish (settings : Settings) (counts : List ℕ) (readies : List Ready) (before after : List SlotState) (worker_pool : WorkerPool) : Type 0 where
   pub settings_are : AreSettings settings
-  pub ran : HasRun settings counts readies before after crew
+  pub ran : HasRun settings counts readies before after worker_pool
   pub few : (length readies < 2 ^ 32) × (length counts < 2 ^ 32)

@@ -4,7 +4,7 @@ pub mod Slots
 pub mod Working
 -- What workers leave that have passes to the slot table.
 pub mod Handles
--- What a crew of workers and fetchers is, before it runs and after it.
-pub mod Crews
--- What comes of a crew that has run.
+-- What a worker pool of workers and fetchers is, before it runs and after it.
+pub mod WorkerPools
+-- What comes of a worker pool that has run.
 pub mod Finishing

@@ -1,4 +1,4 @@
-//! What a crew gives once it has run.
+//! What a worker pool gives once it has run.
 
 ghost use Rattle.std.specs.Prelude.{◌≡◌, ◌≤◌, ◌<◌, [], ℕ, true, Some, List, length, map, is_some, IfOk, OnErr, vec_len, vec_capacity};
 ghost use Rattle.std.specs.List.{list_all};
@@ -10,8 +10,8 @@ ghost use Rattle.batch_result.specs.Batches.{IsBatch, use_at};
 ghost use Rattle.batch_result.specs.Cut.{IsCut};
 ghost use Rattle.batch_run.specs.Finishing.{slots_run, CanFinish, UsedOf};
 
-use super::hire::Crew;
 use super::joining::rejoin;
+use super::worker_pool::WorkerPool;
 use batch_result::{Batch, Use};
 use fetcher::{Fetched, Slot};
 use query_run::{Ended, Memory};
@@ -63,18 +63,18 @@ fn use_all<S: Source>(states: &States, slots: &[Slot<S>], uses: &mut Vec<Use>)
     }
 }
 
-/// What the batch gives, once its crew has run; none where a query hasn't ended, since memory ran out. The pool is closed in either case.
-pub(crate) fn finish<S: Source>(crew: Crew, slots: &[Slot<S>]) -> Result<Batch, Memory>
+/// What the batch gives, once its worker pool has run; none where a query hasn't ended, since memory ran out. The pool is closed in either case.
+pub(crate) fn finish<S: Source>(worker_pool: WorkerPool, slots: &[Slot<S>]) -> Result<Batch, Memory>
     requires { (settings : Settings) × (counts : List ℕ) × (readies : List Ready) × (before : List SlotState)
-        × CanFinish settings counts readies before (states_of S.list S.counts S.calls S.at_hand slots.now) crew }
+        × CanFinish settings counts readies before (states_of S.list S.counts S.calls S.at_hand slots.now) worker_pool }
     ensures batch { IfOk result (λ batch. (settings : Settings) (counts : List ℕ) (readies : List Ready) (before : List SlotState)
-        → CanFinish settings counts readies before (states_of S.list S.counts S.calls S.at_hand slots.now) crew
+        → CanFinish settings counts readies before (states_of S.list S.counts S.calls S.at_hand slots.now) worker_pool
         → IsBatch (slots_run settings counts readies before (states_of S.list S.counts S.calls S.at_hand slots.now)) batch) }
     ensures cut { OnErr result ((settings : Settings) (counts : List ℕ) (readies : List Ready) (before : List SlotState)
-        → CanFinish settings counts readies before (states_of S.list S.counts S.calls S.at_hand slots.now) crew
+        → CanFinish settings counts readies before (states_of S.list S.counts S.calls S.at_hand slots.now) worker_pool
         → IsCut (slots_run settings counts readies before (states_of S.list S.counts S.calls S.at_hand slots.now))) }
 {
-    let Crew {
+    let WorkerPool {
         pool,
         mut pass,
         tickets,
@@ -84,7 +84,7 @@ pub(crate) fn finish<S: Source>(crew: Crew, slots: &[Slot<S>]) -> Result<Batch, 
         mut places,
         mut endings,
         mut uses,
-    } = crew;
+    } = worker_pool;
     rejoin(&pool, &mut pass, &tickets, &mut draws, workers, &mut places);
     tickets.close(draws);
     let states = pool.close(pass, Feeders::from_vec(feeders));

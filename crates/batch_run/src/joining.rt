@@ -1,11 +1,11 @@
-//! How a crew that has run comes apart.
+//! How a worker pool that has run comes apart.
 
 ghost use Rattle.std.specs.Prelude.{◌≡◌, ◌<◌, ◌+◌, ℕ, None, All, length, map};
 ghost use Rattle.std.specs.List.{flat_map, slice_index_or, sum_by};
 ghost use Rattle.source_pool.specs.Passes.{IsPassOf};
 ghost use Rattle.tickets.specs.Draws.{times};
 ghost use Rattle.tickets.specs.Places.{standing};
-ghost use Rattle.batch_run.specs.Crews.{Rejoins};
+ghost use Rattle.batch_run.specs.WorkerPools.{Rejoins};
 
 use super::work::Worker;
 use query_run::Ended;

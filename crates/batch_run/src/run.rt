@@ -10,9 +10,9 @@ ghost use Rattle.batch_result.specs.Batches.{run_of, IsBatch};
 ghost use Rattle.batch_result.specs.Cut.{IsCut};
 
 use super::finish::finish;
-use super::hire::Crew;
 use super::lending::{lend, take_back};
 use super::sides::run_sides;
+use super::worker_pool::WorkerPool;
 use batch_result::{Batch, Settings};
 use fetcher::Slot;
 use query_core::Ready;
@@ -55,18 +55,18 @@ pub fn run_all<W: Threads + Wait + Sync, S: Source>(
     ensures batch { IfOk result (IsBatch (run_of S.list S.counts S.calls S.at_hand settings counts.now queries.now sources.old.items sources.new.items)) }
     ensures right { IfOk result (λ batch. AllZip IsRight queries.now batch.endings) }
 {
-    let mut crew = Crew::make(alloc, counts, queries.len(), settings.workers)?;
-    lend(&mut crew.feeders, sources);
+    let mut worker_pool = WorkerPool::make(alloc, counts, queries.len(), settings.workers)?;
+    lend(&mut worker_pool.feeders, sources);
     run_sides(
         rt,
         alloc,
-        &crew.pool,
-        &crew.tickets,
-        &mut crew.workers,
+        &worker_pool.pool,
+        &worker_pool.tickets,
+        &mut worker_pool.workers,
         sources,
         queries,
         settings,
     );
-    take_back(sources, &mut crew.feeders);
-    finish(crew, sources)
+    take_back(sources, &mut worker_pool.feeders);
+    finish(worker_pool, sources)
 }

@@ -19,7 +19,7 @@ pub record IsSlotTable {S : Type 0} (table : SlotTable S) (pool : List TableId) 
   pub ahead : table.lock.key.ahead ≡ table.ahead
   pub size : table.lock.size ≡ length pool
   pub many : length table.lock.key.slots.value.items ≡ length pool
-  pub bells : vec_len table.bells ≡ length pool
+  pub notifies : vec_len table.notifies ≡ length pool
 
 -- who has this pass may take turns over the slot table
 pub record MayServe {S : Type 0} (table : SlotTable S) (pool : List TableId) (pass : TableId × Hold (Began S)) : Type 0 where

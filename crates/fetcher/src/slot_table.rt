@@ -14,16 +14,16 @@ use source_pool::Pool;
 use std::alloc::{AllocError, Global};
 use std::snapshot::Snapshot;
 use std::sync::Wait;
-use turn_lock::Bell;
+use turn_lock::Notify;
 
-/// The slots of all sources, in their order, behind one lock, and a bell for each fetcher.
+/// The slots of all sources, in their order, behind one lock, and what wakes the fetcher of each.
 pub struct SlotTable<S: Source> {
     pub lock: KeyedLock<Slot<S>>,
     /// How many rows a page has at most, and how many pages are read ahead.
     pub page: u32,
     pub ahead: u32,
     /// Where the fetcher of a source sleeps until there are rows to read ahead.
-    pub bells: Vec<Bell>,
+    pub notifies: Vec<Notify>,
     /// Of each source whether it is far.
     pub far: Vec<bool>,
     /// Set once all workers have worked.
@@ -37,22 +37,22 @@ impl<S: Source> Drop for SlotTable<S> {
             lock: _lock,
             page: _,
             ahead: _,
-            bells: _bells,
+            notifies: _notifies,
             far: _far,
             stop: _stop,
         } = self;
     }
 }
 
-/// So many bells.
-fn make_bells(alloc: Global, count: usize) -> Result<Vec<Bell>, AllocError>
-    ensures { IfOk result (λ bells. vec_len bells ≡ count) }
+/// So many of them.
+fn make_notifies(alloc: Global, count: usize) -> Result<Vec<Notify>, AllocError>
+    ensures { IfOk result (λ notifies. vec_len notifies ≡ count) }
 {
-    let mut bells = Vec::with_capacity(alloc, count)?;
+    let mut notifies = Vec::with_capacity(alloc, count)?;
     for made in 0..count {
-        bells.push_reserved(Bell::make());
+        notifies.push_reserved(Notify::make());
     }
-    Ok(bells)
+    Ok(notifies)
 }
 
 /// Of each source whether it is far.
@@ -118,12 +118,12 @@ pub fn serve_loop<S: Source>(
     ensures { pass.new ≡ pass.old }
 {
     for _ in rt.forever() {
-        let rings = table.bells[place].rings();
+        let epoch = table.notifies[place].epoch();
         if table.stop.is_set() {
             return;
         }
         if serve(rt, alloc, pool, table, pass, place) == Turned::Idle {
-            table.bells[place].sleep(rt, rings);
+            table.notifies[place].wait(rt, epoch);
         }
     }
 }
@@ -152,7 +152,7 @@ impl<S: Source> SlotTable<S> {
             ahead,
             slots: Snapshot::of(slots),
         };
-        let Ok(bells) = make_bells(alloc, slots.len()) else {
+        let Ok(notifies) = make_notifies(alloc, slots.len()) else {
             return None;
         };
         let Ok(far) = find_far(alloc, slots) else {
@@ -164,7 +164,7 @@ impl<S: Source> SlotTable<S> {
                     lock,
                     page,
                     ahead,
-                    bells,
+                    notifies,
                     far,
                     stop: Stop::make(),
                 },
@@ -187,7 +187,7 @@ impl<S: Source> SlotTable<S> {
             lock,
             page: _,
             ahead: _,
-            bells: _bells,
+            notifies: _notifies,
             far: _far,
             stop: _stop,
         } = self;
@@ -196,12 +196,12 @@ impl<S: Source> SlotTable<S> {
 
     /// Wakes the fetcher of a source where a turn brought a page, and more may be read ahead.
     fn wake(&self, place: usize, turned: Turned)
-        requires { place < vec_len self.now.bells }
+        requires { place < vec_len self.now.notifies }
     {
         if let Turned::Paged { .. } = turned
             && self.ahead > 0
         {
-            self.bells[place].ring();
+            self.notifies[place].notify_all();
         }
     }
 
@@ -215,15 +215,15 @@ impl<S: Source> SlotTable<S> {
 
     /// Wakes the fetcher of a source.
     pub fn wake_fetcher(&self, place: usize) {
-        if let Some(bell) = self.bells.get(place) {
-            bell.ring();
+        if let Some(notify) = self.notifies.get(place) {
+            notify.notify_all();
         }
     }
 
     /// Wakes all fetchers.
     pub fn wake_all(&self) {
-        for bell in self.bells.iter() {
-            bell.ring();
+        for notify in self.notifies.iter() {
+            notify.notify_all();
         }
     }
 }

@@ -15,7 +15,7 @@ use std::hint::spin_loop;
 use std::marker::Model;
 use std::snapshot::Snapshot;
 use std::sync::Wait;
-use turn_lock::Bell;
+use turn_lock::Notify;
 
 /// How often a pass looks whether a value was given back before it sleeps.
 const LOOKS: u32 = 100;
@@ -27,8 +27,8 @@ const LOOKS: u32 = 100;
 #[derive(Drop)]
 pub struct KeyedLock<V: LockInvariant + Drop> {
     table: Table<Option<V>, View<V::Key>, V::Key, Keyed, Global>,
-    /// Who gives a value back rings the bell of its place, and who waits for it sleeps there.
-    bells: Vec<Bell>,
+    /// Who gives a value back notifies those who wait for it at its place.
+    notifies: Vec<Notify>,
 }
 
 impl<V: LockInvariant + Drop> Model for KeyedLock<V> {
@@ -39,7 +39,7 @@ impl<V: LockInvariant + Drop> Model for KeyedLock<V> {
 
     ghost view = { λ l. record { id = l.table.shared.table_id; key = l.table.shared.key; size = l.table.shared.table_id.slots } };
 
-    ghost invariant = { λ l. (l.table.shared.table_id.words ≡ l.table.shared.table_id.slots + 1) × (vec_len l.bells ≡ l.table.shared.table_id.slots) };
+    ghost invariant = { λ l. (l.table.shared.table_id.words ≡ l.table.shared.table_id.slots + 1) × (vec_len l.notifies ≡ l.table.shared.table_id.slots) };
 }
 
 /// So many words, all 0.
@@ -49,15 +49,15 @@ fn make_words(alloc: Global, count: usize) -> Result<Vec<u64>, AllocError>
     vec![in alloc; 0; count]
 }
 
-/// So many bells.
-fn make_bells(alloc: Global, count: usize) -> Result<Vec<Bell>, AllocError>
-    ensures { IfOk result (λ bells. vec_len bells ≡ count) }
+/// So many of them.
+fn make_notifies(alloc: Global, count: usize) -> Result<Vec<Notify>, AllocError>
+    ensures { IfOk result (λ notifies. vec_len notifies ≡ count) }
 {
-    let mut bells = Vec::with_capacity(alloc, count)?;
+    let mut notifies = Vec::with_capacity(alloc, count)?;
     for made in 0..count {
-        bells.push_reserved(Bell::make());
+        notifies.push_reserved(Notify::make());
     }
-    Ok(bells)
+    Ok(notifies)
 }
 
 /// Takes the values out of the slots of a table that was closed, in their order.
@@ -93,11 +93,11 @@ impl<V: LockInvariant + Send + Drop> KeyedLock<V> {
     {
         let count = values.len();
         let words = make_words(alloc, count + 1)?;
-        let bells = make_bells(alloc, count)?;
+        let notifies = make_notifies(alloc, count)?;
         let mut slots = Vec::with_capacity(alloc, count)?;
         fill(values, &mut slots);
         match Table::new(alloc, words.as_slice(), slots, key) {
-            Ok((table, seat)) => Ok((KeyedLock { table, bells }, Pass { seat })),
+            Ok((table, seat)) => Ok((KeyedLock { table, notifies }, Pass { seat })),
             Err(Refused { slots }) => {
                 empty(slots, values);
                 Err(AllocError)
@@ -143,14 +143,14 @@ impl<V: LockInvariant + Send + Drop> KeyedLock<V> {
         ensures { pass.new ≡ (self.now.id, holding None pass.old.1) }
     {
         seat::put(&self.table.shared, &mut pass.seat, place, value);
-        self.bells[place].ring();
+        self.notifies[place].notify_all();
     }
 
     /// How often the value at a place was given back. Who is to sleep where it is taken reads it before trying to take it.
     pub fn given(&self, place: usize) -> u64
         requires { place < self.now.size }
     {
-        self.bells[place].rings()
+        self.notifies[place].epoch()
     }
 
     /// Waits until the value at a place was given back since it had been so often: it looks for a while, and then sleeps. May also return
@@ -164,7 +164,7 @@ impl<V: LockInvariant + Send + Drop> KeyedLock<V> {
             }
             spin_loop();
         }
-        self.bells[place].sleep(rt, given);
+        self.notifies[place].wait(rt, given);
     }
 
     /// Splits a pass off, which gets so many of the parts.
@@ -200,8 +200,8 @@ impl<V: LockInvariant + Send + Drop> KeyedLock<V> {
         ensures size { length values.new.items ≡ self.size }
         ensures keep { KeepAll V.keeps self.key values.new.items }
     {
-        let KeyedLock { table, bells } = self;
-        drop(bells);
+        let KeyedLock { table, notifies } = self;
+        drop(notifies);
         let Pass { seat } = pass;
         take_out(table.close_with(seat), values);
     }

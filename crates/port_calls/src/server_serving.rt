@@ -18,7 +18,7 @@ use catalog_open::{OpenSources, open_wanted, put_back_all};
 use catalog_text::Catalog;
 use command_line::ServeOptions;
 use fetcher::Slot;
-use query_server::{Opened as Lists, Served, serve_all};
+use query_server::{OpenedCatalog, Served, serve_all};
 use source_api::{Shelf, Source};
 use std::alloc::Global;
 use std::sync::Wait;
@@ -46,7 +46,7 @@ pub(crate) fn serve_lists<W: Threads + Wait + Clock + Sync, H: Shelf, P: Port>(
     };
     match entries_of(alloc, &sources.openings) {
         Ok(entries) => {
-            let mut lists = Lists::make(catalog, entries);
+            let mut lists = OpenedCatalog::make(catalog, entries);
             let served = serve_at(rt, alloc, options, &mut lists, &mut sources.slots, port);
             put_back_all(shelf, lists.catalog(), sources);
             served
@@ -91,7 +91,7 @@ fn serve_at<W: Threads + Wait + Clock + Sync, S: Source, P: Port>(
     rt: &W,
     alloc: Global,
     options: &ServeOptions,
-    lists: &mut Lists,
+    lists: &mut OpenedCatalog,
     slots: &mut Vec<Slot<S>>,
     port: &mut P,
 ) -> Served

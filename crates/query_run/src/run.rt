@@ -23,12 +23,12 @@ use std::alloc::Global;
 use std::sync::Wait;
 
 /// Calls who serves what is needed.
-fn rest<P, F: Fn(u32, u64, &mut P)>(serve: &F, by: &mut P, source: u32, told: u64)
+fn rest<P, F: Fn(u32, u64, &mut P)>(serve: &F, by: &mut P, source: u32, seen: u64)
     requires may { MayServe F.Fn serve.now source by.old }
     requires stays { Leaves F.Fn serve.now source by.old }
     ensures { by.new ≡ by.old }
 {
-    serve(source, told, by);
+    serve(source, seen, by);
 }
 
 /// Has who serves a source woken, where something was asked of it.
@@ -99,17 +99,17 @@ fn look_ahead<G: Fn(u32) -> bool, H: Fn(u32)>(
 }
 
 /// What is to be served where a look isn't answered yet.
-fn missing(look: Look, source: u32, told: u64) -> Option<(u32, u64)>
+fn missing(look: Look, source: u32, seen: u64) -> Option<(u32, u64)>
     ensures { IfSome result (λ m. (m.0 ≡ source) × (look ≡ Look.NotYet)) }
 {
     match look {
-        Look::NotYet => Some((source, told)),
+        Look::NotYet => Some((source, seen)),
         Look::Row(_) | Look::Grade(_) | Look::Fault(_) => None,
     }
 }
 
 /// One look at the source of what a query needs, and what the query makes of the answer. Where it isn't there yet, the source, and how often its
-/// feeder had told before the look.
+/// feeder had brought news before the look.
 fn look_once(
     rt: &impl Wait,
     pool: &Pool,
@@ -126,10 +126,10 @@ fn look_once(
     let need = query.machine.need();
     let list = list_needed(need);
     let source = query.sources[usize::from(list)];
-    let told = pool.told(source);
+    let seen = pool.news(source);
     let look = pool.look(rt, pass, source, need);
     query.answer(list, look);
-    missing(look, source, told)
+    missing(look, source, seen)
 }
 
 /// One look for what a query needs. Where it isn't there yet, what is certain is asked for at other sources that are far, and then the need is
@@ -155,9 +155,9 @@ fn look_and_wait<P, F: Fn(u32, u64, &mut P), G: Fn(u32) -> bool, H: Fn(u32)>(
     ensures own { IsPassOf pool.now pass.new }
     ensures step { LooksAndAhead pass.old pass.new query.old query.new }
 {
-    if let Some((source, told)) = look_once(rt, pool, pass, query) {
+    if let Some((source, seen)) = look_once(rt, pool, pass, query) {
         look_ahead(rt, pool, pass, query, far, wake);
-        rest(serve, by, source, told);
+        rest(serve, by, source, seen);
     }
 }
 
@@ -207,7 +207,7 @@ fn wants_memory(refusal: Option<Refusal>) -> bool
 /// Runs a query over the sources of a pool, through a pass of it, and may wait. It looks for what the query's machine needs next until that
 /// is there or can't be had, and ends with the answer, or with why the query is refused. Where a call of a source ran out of memory while the
 /// query waited for it, this runs out of memory too; no more was wanted of the sources then than the query had asked for. What isn't there yet is
-/// served by a call of `serve`, of the source's number, how often its feeder had told before the look, and what this thread serves by; or the
+/// served by a call of `serve`, of the source's number, how much news its feeder had brought before the look, and what this thread serves by; or the
 /// call waits until it was served. It may return for no reason: the query looks again. Before that what is certain is asked for at the other
 /// sources of which `far` says that they are far, and `wake` is called for each of these that hasn't it yet. A call of these that fails
 /// refuses nobody; who comes to need it asks again.
@@ -269,9 +269,9 @@ pub fn run_query(
     ensures short { OnErr result (RanSome ready.now pass.old pass.new) }
     ensures right { IfOk result (IsRight ready.now) }
 {
-    let sleep = |source: u32, told: u64, _: &mut ()|
+    let sleep = |source: u32, seen: u64, _: &mut ()|
         requires { source < length pool.now }
-    { pool.sleep_till_told(rt, source, told) };
+    { pool.wait_for_news(rt, source, seen) };
     let far = |_: u32| true;
     let wake = |_: u32| {};
     run_query_by(rt, alloc, pool, pass, ready, &sleep, &mut (), &far, &wake)

@@ -4,4 +4,4 @@ pub mod TakingLaws
 pub mod HomeLaws
 pub mod SourceLaws
 pub mod ReopenLaws
-pub mod CrewLaws
+pub mod WorkerLaws

@@ -2,7 +2,7 @@
 
 ghost use Rattle.std.specs.Prelude.{◌≡◌, ◌<◌, ◌^◌, ℕ, List, None, All, IfOk, IfSome, OnErr, OnOk, false, length, map};
 ghost use Rattle.topk_base.specs.Ranges.{AreSettings};
-ghost use Rattle.batch_run.specs.Crews.{IsNewCrew};
+ghost use Rattle.batch_run.specs.WorkerPools.{IsNewWorkerPool};
 ghost use Rattle.query_server.specs.Homes.{AreHomes, IsCounted, home_of};
 ghost use Rattle.query_server.specs.Reopening.{AsksSome, IsAtHand, ReopensAll};
 ghost use Rattle.query_server.specs.Serving.{KeepsSources, KeepsVersions, Leaves, WereReopened};
@@ -12,9 +12,9 @@ use super::lifetime::{lifetime_of, pause_after};
 use super::queue::LinkQueue;
 use super::reopening::entries_again;
 use super::sides::serve_sides;
-use batch_run::{Crew, lend, take_back};
+use batch_run::{WorkerPool, lend, take_back};
 use fetcher::Slot;
-use server_conn::Opened;
+use server_conn::OpenedCatalog;
 use source_api::Source;
 use std::alloc::Global;
 use std::sync::Wait;
@@ -23,36 +23,36 @@ use std::time::Clock;
 use tk_io::Link;
 use topk_base::{Memory, Settings};
 
-/// A crew serves links until there are none to take, or takes none where memory runs out. The feeders stand in the slots meanwhile.
-fn serve_crew<W: Threads + Wait + Sync, S: Source, L: Link + Send + Drop>(
+/// A worker pool serves links until there are none to take, or takes none where memory runs out. The feeders stand in the slots meanwhile.
+fn serve_workers<W: Threads + Wait + Sync, S: Source, L: Link + Send + Drop>(
     rt: &W,
     alloc: Global,
-    catalog: &Opened,
-    crew: &mut Crew,
+    catalog: &OpenedCatalog,
+    worker_pool: &mut WorkerPool,
     slots: &mut Vec<Slot<S>>,
     queue: &LinkQueue<L>,
     settings: Settings,
 ) -> Result<(), Memory>
     requires settings { AreSettings settings }
     requires few { length slots.old.items < 2 ^ 32 }
-    requires new { (counts : List ℕ) × IsNewCrew counts 0 settings.workers crew.old × (length counts ≡ length slots.old.items)
+    requires new { (counts : List ℕ) × IsNewWorkerPool counts 0 settings.workers worker_pool.old × (length counts ≡ length slots.old.items)
         × All (IsCounted counts) catalog.now.entries }
     ensures kept { KeepsSources S.list S.counts slots.old.items slots.new.items }
     ensures versions { KeepsVersions S.at_hand slots.old.items slots.new.items }
     ensures empty { All (λ slot. slot.feeder ≡ None) slots.new.items }
 {
-    lend(&mut crew.feeders, slots);
+    lend(&mut worker_pool.feeders, slots);
     let served = serve_sides(
         rt,
         alloc,
         catalog,
-        &crew.pool,
-        &mut crew.workers,
+        &worker_pool.pool,
+        &mut worker_pool.workers,
         slots,
         queue,
         settings,
     );
-    take_back(slots, &mut crew.feeders);
+    take_back(slots, &mut worker_pool.feeders);
     served
 }
 
@@ -61,7 +61,7 @@ fn serve_crew<W: Threads + Wait + Sync, S: Source, L: Link + Send + Drop>(
 fn serve_generation<W: Threads + Wait + Sync, S: Source, L: Link + Send + Drop>(
     rt: &W,
     alloc: Global,
-    catalog: &Opened,
+    catalog: &OpenedCatalog,
     slots: &mut Vec<Slot<S>>,
     queue: &LinkQueue<L>,
     settings: Settings,
@@ -78,18 +78,18 @@ fn serve_generation<W: Threads + Wait + Sync, S: Source, L: Link + Send + Drop>(
     let Ok(counts) = counts_of(alloc, catalog.entries(), slots.len()) else {
         return Err(Memory);
     };
-    let Ok(mut crew) = Crew::make(alloc, counts.as_slice(), 0, settings.workers) else {
+    let Ok(mut worker_pool) = WorkerPool::make(alloc, counts.as_slice(), 0, settings.workers) else {
         return Err(Memory);
     };
-    let served = serve_crew(rt, alloc, catalog, &mut crew, slots, queue, settings);
-    crew.let_go();
+    let served = serve_workers(rt, alloc, catalog, &mut worker_pool, slots, queue, settings);
+    worker_pool.let_go();
     served
 }
 
 /// Asks each source for its size again, and gives the catalog what became of its lists. It tells whether that is something else.
 fn reopen<S: Source>(
     alloc: Global,
-    catalog: &mut Opened,
+    catalog: &mut OpenedCatalog,
     slots: &mut Vec<Slot<S>>,
 ) -> Result<bool, Memory>
     requires homes { AreHomes (length slots.old.items) (map home_of catalog.old.entries) }
@@ -114,7 +114,7 @@ fn reopen<S: Source>(
 fn serve_once<W: Threads + Wait + Sync, S: Source, L: Link + Send + Drop>(
     rt: &W,
     alloc: Global,
-    catalog: &mut Opened,
+    catalog: &mut OpenedCatalog,
     slots: &mut Vec<Slot<S>>,
     queue: &LinkQueue<L>,
     settings: Settings,
@@ -145,7 +145,7 @@ fn serve_once<W: Threads + Wait + Sync, S: Source, L: Link + Send + Drop>(
 fn serve_generations<W: Threads + Wait + Clock + Sync, S: Source, L: Link + Send + Drop>(
     rt: &W,
     alloc: Global,
-    catalog: &mut Opened,
+    catalog: &mut OpenedCatalog,
     slots: &mut Vec<Slot<S>>,
     queue: &LinkQueue<L>,
     settings: Settings,
@@ -176,7 +176,7 @@ fn serve_generations<W: Threads + Wait + Clock + Sync, S: Source, L: Link + Send
 pub(crate) fn serve_side<W: Threads + Wait + Clock + Sync, S: Source, L: Link + Send + Drop>(
     rt: &W,
     alloc: Global,
-    catalog: &mut Opened,
+    catalog: &mut OpenedCatalog,
     slots: &mut Vec<Slot<S>>,
     queue: &LinkQueue<L>,
     settings: Settings,

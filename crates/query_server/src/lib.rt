@@ -20,5 +20,5 @@ pub use accepting::{Accepted, accept_all};
 pub use lifetime::{MAX_PAUSE, MIN_PAUSE};
 pub use queue::LinkQueue;
 pub use server::{Served, serve_all};
-pub use server_conn::{Opened, OpenedEntry};
+pub use server_conn::{OpenedCatalog, OpenedEntry};
 pub use topk_base::Memory;

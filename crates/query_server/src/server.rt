@@ -11,7 +11,7 @@ use super::generation::serve_side;
 use super::lifetime::{MIN_PAUSE, lifetime_of};
 use super::queue::LinkQueue;
 use fetcher::Slot;
-use server_conn::Opened;
+use server_conn::OpenedCatalog;
 use source_api::Source;
 use std::alloc::Global;
 use std::sync::Wait;
@@ -68,7 +68,7 @@ fn accept_side<R: Wait + Clock, P: Port>(
 fn serve_round<W: Threads + Wait + Clock + Sync, S: Source, P: Port>(
     rt: &W,
     alloc: Global,
-    catalog: &mut Opened,
+    catalog: &mut OpenedCatalog,
     sources: &mut Vec<Slot<S>>,
     port: &mut P,
     queue: &LinkQueue<P::L>,
@@ -130,7 +130,7 @@ fn serve_round<W: Threads + Wait + Clock + Sync, S: Source, P: Port>(
 pub fn serve_all<W: Threads + Wait + Clock + Sync, S: Source, P: Port>(
     rt: &W,
     alloc: Global,
-    catalog: &mut Opened,
+    catalog: &mut OpenedCatalog,
     sources: &mut Vec<Slot<S>>,
     port: &mut P,
     settings: Settings,

@@ -14,7 +14,7 @@ use super::queue::LinkQueue;
 use batch_run::Worker;
 use fetcher::{Slot, SlotTable};
 use keyed_lock::{Pass, WorkerHandle};
-use server_conn::{Answers, Opened, serve_conn};
+use server_conn::{Answers, OpenedCatalog, serve_conn};
 use source_api::Source;
 use source_pool::{Pool, PoolPass};
 use std::alloc::Global;
@@ -28,7 +28,7 @@ use workers::{WorkerHandles, close_sides, open_sides, run_beside};
 fn serve_link<W: Wait, S: Source, L: Link + Send + Drop>(
     rt: &W,
     alloc: Global,
-    catalog: &Opened,
+    catalog: &OpenedCatalog,
     pool: &Pool,
     table: &SlotTable<S>,
     own: &mut Pass<Slot<S>>,
@@ -58,7 +58,7 @@ fn serve_link<W: Wait, S: Source, L: Link + Send + Drop>(
 fn serve_links<W: Wait, S: Source, L: Link + Send + Drop>(
     rt: &W,
     alloc: Global,
-    catalog: &Opened,
+    catalog: &OpenedCatalog,
     pool: &Pool,
     table: &SlotTable<S>,
     handle: &mut WorkerHandle<Worker, Slot<S>>,
@@ -98,7 +98,7 @@ fn serve_links<W: Wait, S: Source, L: Link + Send + Drop>(
 fn work_all<W: Threads + Wait + Sync, S: Source, L: Link + Send + Drop>(
     rt: &W,
     alloc: Global,
-    catalog: &Opened,
+    catalog: &OpenedCatalog,
     pool: &Pool,
     table: &SlotTable<S>,
     handles: &mut WorkerHandles<Worker, S>,
@@ -133,7 +133,7 @@ fn work_all<W: Threads + Wait + Sync, S: Source, L: Link + Send + Drop>(
 pub(crate) fn serve_sides<W: Threads + Wait + Sync, S: Source, L: Link + Send + Drop>(
     rt: &W,
     alloc: Global,
-    catalog: &Opened,
+    catalog: &OpenedCatalog,
     pool: &Pool,
     workers: &mut Vec<Worker>,
     slots: &mut Vec<Slot<S>>,

@@ -11,7 +11,7 @@ ghost use Rattle.server_conn.specs.Connections.{WorkerState, Ends, IsRepliedTo, 
 use super::answers::Answers;
 use super::asked::line_asked;
 use super::line::tell_line;
-use super::opened::Opened;
+use super::opened::OpenedCatalog;
 use fetcher::{Slot, SlotTable};
 use http::StatusCode;
 use keyed_lock::Pass;
@@ -49,7 +49,7 @@ pub struct Turn {
 pub fn serve_conn<W: Wait, S: Source, L: Link>(
     rt: &W,
     alloc: Global,
-    catalog: &Opened,
+    catalog: &OpenedCatalog,
     pool: &Pool,
     table: &SlotTable<S>,
     own: &mut Pass<Slot<S>>,
@@ -96,7 +96,7 @@ pub fn serve_conn<W: Wait, S: Source, L: Link>(
 fn answer_head<W: Wait, S: Source, L: Link>(
     rt: &W,
     alloc: Global,
-    catalog: &Opened,
+    catalog: &OpenedCatalog,
     pool: &Pool,
     table: &SlotTable<S>,
     own: &mut Pass<Slot<S>>,
@@ -136,7 +136,7 @@ fn answer_head<W: Wait, S: Source, L: Link>(
 fn answer_line<W: Wait, S: Source, L: Link>(
     rt: &W,
     alloc: Global,
-    catalog: &Opened,
+    catalog: &OpenedCatalog,
     pool: &Pool,
     table: &SlotTable<S>,
     own: &mut Pass<Slot<S>>,

@@ -17,4 +17,4 @@ mod text;
 pub use answers::{Answers, MAX_ANSWER, MAX_ANSWERS};
 pub use conn::{Turn, serve_conn};
 pub use laws::fails_are_shown;
-pub use opened::{Opened, OpenedEntry};
+pub use opened::{OpenedCatalog, OpenedEntry};

@@ -12,7 +12,7 @@ ghost use Rattle.server_conn.specs.Entries.{view_in, MayAnswer};
 ghost use Rattle.server_conn.specs.Becoming.{RunsTo, RunsShort, BecomesHere, is_answer, is_move, is_moved, shown};
 ghost use Rattle.server_conn.specs.Connections.{Tells};
 
-use super::opened::Opened;
+use super::opened::OpenedCatalog;
 use super::text::line_text;
 use cert_text::{Outcome, Refusal};
 use fetcher::{Slot, SlotTable};
@@ -39,7 +39,7 @@ pub(crate) struct ToldLine {
 pub(crate) fn tell_line<W: Wait, S: Source>(
     rt: &W,
     alloc: Global,
-    catalog: &Opened,
+    catalog: &OpenedCatalog,
     pool: &Pool,
     table: &SlotTable<S>,
     own: &mut Pass<Slot<S>>,
@@ -129,7 +129,7 @@ fn is_move(refusal: Refusal) -> bool
 fn answer_line<W: Wait, S: Source>(
     rt: &W,
     alloc: Global,
-    catalog: &Opened,
+    catalog: &OpenedCatalog,
     pool: &Pool,
     table: &SlotTable<S>,
     own: &mut Pass<Slot<S>>,

@@ -35,12 +35,12 @@ pub enum OpenedEntry {
 
 /// A catalog with what became of the source of each entry. Contracts see both.
 #[derive(Drop)]
-pub struct Opened {
+pub struct OpenedCatalog {
     catalog: Catalog,
     entries: Vec<OpenedEntry>,
 }
 
-impl Model for Opened {
+impl Model for OpenedCatalog {
     ghost use Rattle.server_conn.specs.Entries.{Openings};
 
     ghost Value = { Openings };
@@ -52,13 +52,13 @@ impl Model for Opened {
     ghost invariant = { λ o. AreEntriesOf o.catalog o.entries.items };
 }
 
-impl Opened {
+impl OpenedCatalog {
     /// A catalog and what became of its sources, in its order. Takes no memory.
-    pub fn make(catalog: Catalog, entries: Vec<OpenedEntry>) -> Opened
+    pub fn make(catalog: Catalog, entries: Vec<OpenedEntry>) -> OpenedCatalog
         requires { AreEntriesOf catalog entries.items }
         ensures { result ≡ record { catalog = catalog; entries = entries.items } }
     {
-        Opened { catalog, entries }
+        OpenedCatalog { catalog, entries }
     }
 
     /// Puts what became of the sources now in the place of what became of them before.
@@ -131,7 +131,7 @@ fn opening_at(entries: &[OpenedEntry], place: u32) -> Opening
     }
 }
 
-impl Lists for Opened {
+impl Lists for OpenedCatalog {
     ghost use Rattle.server_conn.specs.Entries.{view_in};
 
     ghost view = { λ opened. view_in opened };

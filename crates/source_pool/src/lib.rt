@@ -27,7 +27,7 @@ pub use hold_sharing::{join_one, split_one};
 pub use laws::a_log_says_what_it_has;
 pub use lock_opening::open_lock;
 pub use look::look_once;
-pub use opening::{Opened, open_all};
+pub use opening::{OpenedLocks, open_all};
 pub use pool::Pool;
 pub use pool_pass::PoolPass;
 pub use remembered::Remembered;

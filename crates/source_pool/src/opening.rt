@@ -20,7 +20,7 @@ const PASS_PARTS: u64 = 4_294_967_295;
 
 /// Sources that are opened, in their order.
 #[derive(Drop)]
-pub struct Opened {
+pub struct OpenedLocks {
     /// Their locks.
     pub locks: Vec<TurnLock<SourceState>>,
     /// What the first pass holds of each.
@@ -29,9 +29,9 @@ pub struct Opened {
     pub feeders: Vec<Feeder>,
 }
 
-impl Opened {
+impl OpenedLocks {
     /// No sources, with room for so many.
-    fn make(alloc: Global, room: usize) -> Result<Opened, Memory>
+    fn make(alloc: Global, room: usize) -> Result<OpenedLocks, Memory>
         ensures empty { IfOk result IsEmpty }
         ensures room { IfOk result (HasRoom room) }
     {
@@ -44,7 +44,7 @@ impl Opened {
         let Ok(feeders) = Vec::with_capacity(alloc, room) else {
             return Err(Memory);
         };
-        Ok(Opened {
+        Ok(OpenedLocks {
             locks,
             holds,
             feeders,
@@ -54,7 +54,7 @@ impl Opened {
 
 /// Adds one more source, for which there is room.
 fn add(
-    opened: &mut Opened,
+    opened: &mut OpenedLocks,
     lock: TurnLock<SourceState>,
     mut writer: Pass<SourceState>,
     remembered: Remembered,
@@ -85,7 +85,7 @@ fn add(
 }
 
 /// Opens one more source, for which there is room.
-fn open_next(alloc: Global, opened: &mut Opened, count: u32) -> Result<(), Memory>
+fn open_next(alloc: Global, opened: &mut OpenedLocks, count: u32) -> Result<(), Memory>
     requires few { vec_len opened.old.locks < 2 ^ 32 }
     requires count { count ≤ MAX_OBJECTS }
     requires room { HasPlace opened.old }
@@ -101,12 +101,12 @@ fn open_next(alloc: Global, opened: &mut Opened, count: u32) -> Result<(), Memor
 }
 
 /// The locks of sources with these counts, what the first pass holds of each, and the feeder of each.
-pub fn open_all(alloc: Global, counts: &[u32]) -> Result<Opened, Memory>
+pub fn open_all(alloc: Global, counts: &[u32]) -> Result<OpenedLocks, Memory>
     requires few { length counts.now < 2 ^ 32 }
     requires counts { All (λ count. count ≤ MAX_OBJECTS) counts.now }
     ensures { IfOk result (λ o. IsOpened counts.now o.locks.items o.holds.items o.feeders.items) }
 {
-    let mut opened = Opened::make(alloc, counts.len())?;
+    let mut opened = OpenedLocks::make(alloc, counts.len())?;
     for place in 0..counts.len() {
         open_next(alloc, &mut opened, counts[place])?;
     }

@@ -57,7 +57,7 @@ impl Model for Pool {
 /// Wakes the feeder of a source where a look is not yet answered.
 fn wake_feeder(lock: &TurnLock<SourceState>, answer: Look) {
     match answer {
-        Look::NotYet => lock.wanted().ring(),
+        Look::NotYet => lock.wanted().notify_all(),
         Look::Row(_) | Look::Grade(_) | Look::Fault(_) => {}
     }
 }
@@ -93,7 +93,7 @@ impl Pool {
     /// 256, and so is a grade for which the source was asked, where the pass didn't wait for it.
     ///
     /// *Cost*: one read of what is remembered; or one turn of the source's lock, one `look_at` in it, a copy of up to 256 rows where a row is
-    /// there, a look-up where a grade is, and a ring for the feeder where nothing is there yet. No memory, and nothing grows with what is kept.
+    /// there, a look-up where a grade is, and a wake of the feeder where nothing is there yet. No memory, and nothing grows with what is kept.
     pub fn look(&self, rt: &impl Wait, pass: &mut PoolPass, source: u32, need: Need) -> Look
         requires own { IsPassOf self.now pass.old }
         requires source { source < length self.now }
@@ -142,53 +142,52 @@ impl Pool {
         let lock = &self.locks[source as usize];
         let open = look_ahead(rt, lock, &mut pass.holds[source as usize], need);
         if open {
-            lock.wanted().ring();
+            lock.wanted().notify_all();
         }
         open
     }
 
-    /// How often the feeder of a source told something. Who is to sleep after a look reads it before that look.
-    pub fn told(&self, source: u32) -> u64
+    /// How often the feeder of a source brought news. Who is to sleep after a look reads it before that look.
+    pub fn news(&self, source: u32) -> u64
         requires source { source < length self.now }
     {
-        self.locks[source as usize].told().rings()
+        self.locks[source as usize].news().epoch()
     }
 
-    /// Sleeps until the feeder of a source told something since it had told so often. May also return for no reason: who sleeps looks
-    /// again.
-    pub fn sleep_till_told(&self, rt: &impl Wait, source: u32, told: u64)
+    /// Sleeps until the feeder of a source brings news once it has brought so many. May also return for no reason: who sleeps looks again.
+    pub fn wait_for_news(&self, rt: &impl Wait, source: u32, seen: u64)
         requires source { source < length self.now }
     {
-        self.locks[source as usize].told().sleep(rt, told);
+        self.locks[source as usize].news().wait(rt, seen);
     }
 
     /// How often something was wanted of a feeder. Who is to sleep after a turn reads it before that turn.
     pub fn wanted(&self, feeder: &Feeder) -> u64
         requires own { IsIdleOf self.now feeder.now }
     {
-        self.locks[feeder.source() as usize].wanted().rings()
+        self.locks[feeder.source() as usize].wanted().epoch()
     }
 
-    /// Wakes all that sleep until a feeder told something.
+    /// Wakes all that wait for news of a feeder.
     pub fn wake_lookers(&self, feeder: &Feeder)
         requires own { IsIdleOf self.now feeder.now }
     {
-        self.locks[feeder.source() as usize].told().ring();
+        self.locks[feeder.source() as usize].news().notify_all();
     }
 
     /// Sleeps until something was wanted of a feeder since it had been wanted so often. May also return for no reason.
-    pub fn sleep_till_wanted(&self, rt: &impl Wait, feeder: &Feeder, wanted: u64)
+    pub fn wait_till_wanted(&self, rt: &impl Wait, feeder: &Feeder, wanted: u64)
         requires own { IsIdleOf self.now feeder.now }
     {
         self.locks[feeder.source() as usize]
             .wanted()
-            .sleep(rt, wanted);
+            .wait(rt, wanted);
     }
 
     /// Wakes all feeders that sleep.
     pub fn wake_feeders(&self) {
         for lock in self.locks.iter() {
-            lock.wanted().ring();
+            lock.wanted().notify_all();
         }
     }
 

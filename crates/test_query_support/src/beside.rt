@@ -31,7 +31,7 @@ pub fn fetch_till_set<S: Source>(
         }
         match fetch_turn(rt, alloc, pool, feeder, source, 1, 0) {
             Turned::Paged { rows } => given = given.saturating_add(rows),
-            Turned::Idle => pool.sleep_till_wanted(rt, feeder, wanted),
+            Turned::Idle => pool.wait_till_wanted(rt, feeder, wanted),
             _ => {}
         }
     }

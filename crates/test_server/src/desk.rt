@@ -7,7 +7,7 @@ ghost use Rattle.source_pool.specs.Passes.{IsIdleOf};
 ghost use Rattle.test_server.specs.Four.{four_entries};
 
 use catalog_text::read_catalog;
-use server_conn::{Opened, OpenedEntry};
+use server_conn::{OpenedEntry, OpenedCatalog};
 use std::alloc::Global;
 use test_query_support::Pair;
 
@@ -40,7 +40,7 @@ fn four_entries(alloc: Global) -> Option<Vec<OpenedEntry>>
 }
 
 /// The lists with what became of their sources. None without memory.
-pub(crate) fn open_lists(alloc: Global) -> Option<Opened>
+pub(crate) fn open_lists(alloc: Global) -> Option<OpenedCatalog>
     ensures { IfSome result (λ opened. opened.entries ≡ four_entries) }
 {
     let Ok(catalog) = read_catalog(alloc, CATALOG) else {
@@ -55,11 +55,11 @@ pub(crate) fn open_lists(alloc: Global) -> Option<Opened>
         drop(catalog);
         return None;
     }
-    Some(Opened::make(catalog, entries))
+    Some(OpenedCatalog::make(catalog, entries))
 }
 
 /// Over a pool of two sources of three objects that was just opened lines may be answered, and both its feeders are idle.
-pub(crate) fn opened_may_answer(lists: &Opened, pair: &Pair)
+pub(crate) fn opened_may_answer(lists: &OpenedCatalog, pair: &Pair)
     requires lists { lists.now.entries ≡ four_entries }
     requires pair { IsPair 3 pair.now }
     ensures may { MayAnswer lists.now pair.now.pool pair.now.pass }

@@ -9,7 +9,7 @@ ghost use Rattle.test_query_support.specs.Pairs.{IsPair};
 
 use super::desk::{open_lists, opened_may_answer};
 use fetcher::{Fetched, Slot};
-use server_conn::{Answers, Opened, Turn, serve_conn};
+use server_conn::{Answers, OpenedCatalog, Turn, serve_conn};
 use source_pool::{Feeder, Pool, PoolPass};
 use std::alloc::Global;
 use std::sync::Wait;
@@ -64,7 +64,7 @@ fn is_reply(alloc: Global, turn: Turn, link: &MemLink, parts: &[&[u8]]) -> bool 
 fn answer(
     rt: &impl Wait,
     alloc: Global,
-    lists: &Opened,
+    lists: &OpenedCatalog,
     pool: &Pool,
     pass: &mut PoolPass,
     slots: &mut Vec<Slot<MemSource>>,

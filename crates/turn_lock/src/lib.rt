@@ -1,18 +1,17 @@
 //! A lock that remembers: who takes a turn learns that the log of the value has only grown since the last turn.
 #![tactic(auto)]
 
-mod bell;
 mod facts;
 mod known;
 mod laws;
 mod lock;
 mod logged;
+mod notify;
 mod pass;
 mod rule;
 mod seat;
 mod view;
 
-pub use bell::Bell;
 pub use facts::{Facts, Tally};
 pub use known::{Known, Sight};
 pub use laws::{
@@ -20,4 +19,5 @@ pub use laws::{
 };
 pub use lock::TurnLock;
 pub use logged::Logged;
+pub use notify::Notify;
 pub use pass::Pass;

@@ -2,8 +2,8 @@ ghost use Rattle.std.specs.Prelude.{◌≡◌, ◌<◌, false, [], ◌∷◌, No
 ghost use Rattle.turn_lock.specs.Facts.{FactsGrow, AreFactsKept};
 ghost use Rattle.turn_lock.specs.Known.{all_parts, KnowsOf, Follows, opened, holding, after_turn, without, split_off, joined};
 
-use crate::bell::Bell;
 use crate::logged::Logged;
+use crate::notify::Notify;
 use crate::pass::Pass;
 use crate::rule::Turns;
 use crate::seat;
@@ -22,12 +22,12 @@ use std::sync::Wait;
 #[derive(Drop)]
 pub struct TurnLock<V: Logged + Drop> {
     table: Table<Option<V>, View<V::Entry>, Snapshot<V>, Turns, Global>,
-    /// The end of a turn rings it, and who waits for a turn sleeps at it.
-    free: Bell,
-    /// The writer rings it, and the others sleep at it.
-    told: Bell,
-    /// The others ring it, and the writer sleeps at it.
-    wanted: Bell,
+    /// The end of a turn notifies it, and who waits for a turn sleeps by it.
+    free: Notify,
+    /// The writer notifies it, and the others sleep by it.
+    news: Notify,
+    /// The others notify it, and the writer sleeps by it.
+    wanted: Notify,
 }
 
 impl<V: Logged + Drop> Model for TurnLock<V> {
@@ -73,9 +73,9 @@ impl<V: Logged + Send + Drop> TurnLock<V> {
             Ok((table, seat)) => {
                 let lock = TurnLock {
                     table,
-                    free: Bell::make(),
-                    told: Bell::make(),
-                    wanted: Bell::make(),
+                    free: Notify::make(),
+                    news: Notify::make(),
+                    wanted: Notify::make(),
                 };
                 Ok((lock, Pass { seat }))
             }
@@ -104,14 +104,14 @@ impl<V: Logged + Send + Drop> TurnLock<V> {
         seat::leave(&self.table.shared, &self.free, &mut pass.seat, value);
     }
 
-    /// The bell that the writer rings when a turn of its brought something, and that the others sleep at. Who looked in a turn, and found
-    /// that what it needs isn't there, sleeps from the count of rings before that turn.
-    pub fn told(&self) -> &Bell {
-        &self.told
+    /// What the writer notifies when a turn of its brought something, and what the others sleep by. Who looked in a turn, and found that
+    /// what it needs isn't there, waits for the end of the epoch before that turn.
+    pub fn news(&self) -> &Notify {
+        &self.news
     }
 
-    /// The bell that the others ring when a turn of theirs left something to do, and that the writer sleeps at.
-    pub fn wanted(&self) -> &Bell {
+    /// What the others notify when a turn of theirs left something to do, and what the writer sleeps by.
+    pub fn wanted(&self) -> &Notify {
         &self.wanted
     }
 

@@ -5,8 +5,8 @@ ghost use Rattle.turn_lock.specs.Known.{KnowsOf, Follows, holding, after_turn, w
 ghost use Rattle.turn_lock.specs.Steps.{IsDrawn};
 ghost use Rattle.turn_lock.specs.Seats.{IsSeatOf, IsSameSeat, Rests, InTurn, Waits, Took, MayGive, GivesTurn, Counted, Gave};
 
-use crate::bell::Bell;
 use crate::logged::Logged;
+use crate::notify::Notify;
 use crate::rule::{Compare, Count, Cut, Glue, Grab, Offer, PassOn, Turns, Watch};
 use crate::view::View;
 use atomic_table::{Seat, Shared};
@@ -48,7 +48,7 @@ fn try_draw<V: Logged>(desk: &Desk<V>, seat: &mut Place<V>) -> Option<u64>
 
 // Draws a ticket as soon as it is served at once, so that nobody holds a place while it sleeps. A turn takes about as long as the looks, so where
 // the pass that has it runs, the others seldom sleep.
-fn draw<V: Logged, R: Wait>(rt: &R, desk: &Desk<V>, free: &Bell, seat: &mut Place<V>) -> u64
+fn draw<V: Logged, R: Wait>(rt: &R, desk: &Desk<V>, free: &Notify, seat: &mut Place<V>) -> u64
     requires desk { IsSeatOf desk.now.table_id seat.old.table_id }
     requires rests { Rests seat.old.me }
     ensures same { IsSameSeat seat.old seat.new }
@@ -56,7 +56,7 @@ fn draw<V: Logged, R: Wait>(rt: &R, desk: &Desk<V>, free: &Bell, seat: &mut Plac
 {
     let mut looks = 0;
     for _ in rt.forever() {
-        let heard = free.rings();
+        let epoch = free.epoch();
         if let Some(ticket) = try_draw(desk, seat) {
             return ticket;
         }
@@ -64,7 +64,7 @@ fn draw<V: Logged, R: Wait>(rt: &R, desk: &Desk<V>, free: &Bell, seat: &mut Plac
             looks += 1;
             spin_loop();
         } else {
-            free.sleep(rt, heard);
+            free.wait(rt, epoch);
         }
     }
     unreachable!()
@@ -90,7 +90,7 @@ fn wait_for<V: Logged, R: Wait>(rt: &R, desk: &Desk<V>, seat: &mut Place<V>, tic
 pub fn enter<V: Logged + Drop, R: Wait>(
     rt: &R,
     desk: &Desk<V>,
-    free: &Bell,
+    free: &Notify,
     seat: &mut Place<V>,
 ) -> V
     requires desk { IsSeatOf desk.now.table_id seat.old.table_id }
@@ -133,7 +133,7 @@ fn count<V: Logged>(desk: &Desk<V>, seat: &mut Place<V>, length: u64)
 }
 
 // Serves the next ticket, and wakes a pass that waits for a turn.
-fn pass_on<V: Logged>(desk: &Desk<V>, free: &Bell, seat: &mut Place<V>)
+fn pass_on<V: Logged>(desk: &Desk<V>, free: &Notify, seat: &mut Place<V>)
     requires desk { IsSeatOf desk.now.table_id seat.old.table_id }
     requires given { Gave V.facts seat.old.me }
     ensures same { IsSameSeat seat.old seat.new }
@@ -141,11 +141,11 @@ fn pass_on<V: Logged>(desk: &Desk<V>, free: &Bell, seat: &mut Place<V>)
     ensures known { seat.new.me.0.known ≡ record seat.old.me.0.known { held = None } }
 {
     desk.fetch_add::<PassOn>(seat, SERVING, 1);
-    free.ring_one();
+    free.notify_one();
 }
 
 // Puts a value home, and ends the turn.
-pub fn leave<V: Logged + Drop>(desk: &Desk<V>, free: &Bell, seat: &mut Place<V>, value: V)
+pub fn leave<V: Logged + Drop>(desk: &Desk<V>, free: &Notify, seat: &mut Place<V>, value: V)
     requires desk { IsSeatOf desk.now.table_id seat.old.table_id }
     requires turn { InTurn seat.old.me }
     requires change { MayGive (V.facts value) seat.old.me.0.known }

@@ -41,7 +41,7 @@ pub fn run_and_fetch<W: Wait, S: Source>(
     ensures short { OnErr result (RanSome ready.now pass.old pass.new) }
     ensures right { IfOk result (IsRight ready.now) }
 {
-    let serve = |source: u32, _told: u64, own: &mut Pass<Slot<S>>|
+    let serve = |source: u32, _seen: u64, own: &mut Pass<Slot<S>>|
         requires { MayServe table.now pool.now own.now × (source < length pool.now) }
         ensures { own.exit.now ≡ own.entry.now }
     { serve_or_wait(rt, alloc, pool, table, own, source as usize) };

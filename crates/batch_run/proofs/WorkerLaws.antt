@@ -1,4 +1,4 @@
--- Workers that are hired, and what they leave.
+-- Workers that are made, and what they leave.
 use Rattle.std.proofs.Common.{◌≡◌, ◌<◌, ◌+◌, ◌-◌, inl, inr, ℕ, None, List, [], ◌∷◌, ◌++◌, length, All, Contains, slice_index_or, refl, sym, ap, subst, ◌∙◌, arith}
 use Rattle.std.proofs.lemmas.Bool.{cases_lt}
 use Rattle.std.proofs.lemmas.List.{get_or_append_left, get_or_at, get_or_past, length_push}
@@ -18,7 +18,7 @@ use Rattle.query_run.specs.Made.{IsReadyFor}
 use Rattle.topk_base.specs.declared.settings.Settings.{Settings}
 use Rattle.batch_run.specs.declared.work.Worker.{Worker}
 use Rattle.batch_run.specs.Working.{DidOf, IsAtWork, Worked, AllWorked}
-use Rattle.batch_run.specs.Crews.{fresh_hold, IsHired, IsBase, IsFirst, IsHiring, HasLeft}
+use Rattle.batch_run.specs.WorkerPools.{fresh_hold, IsNewWorker, IsBase, IsFirst, AreNewWorkers, HasLeft}
 use Rattle.batch_run.proofs.WorkLaws.{worked_none}
 
 -- what a fresh pass holds of a source
@@ -39,22 +39,22 @@ did_nothing source hold high asked mine none rests = record {
   within = fresh_within hold none rests;
 }
 
--- what holds of what a hired worker's pass holds, where it holds of what is fresh and of what isn't there
-hired_hold : (P : Hold → Type 0) (pool : List TableId) (tickets : TableId) (counts : List ℕ) (worker : Worker) → length pool ≡ length counts
-    → IsHired pool tickets counts worker
+-- what holds of what a made worker's pass holds, where it holds of what is fresh and of what isn't there
+made_hold : (P : Hold → Type 0) (pool : List TableId) (tickets : TableId) (counts : List ℕ) (worker : Worker) → length pool ≡ length counts
+    → IsNewWorker pool tickets counts worker
     → ((source : ℕ) → P (fresh_hold pool counts source)) → P no_hold → (source : ℕ) → P (hold_at worker.pass source)
-hired_hold P pool tickets counts worker size h fresh none source =
+made_hold P pool tickets counts worker size h fresh none source =
     elim (cases_lt source (length counts)) [
       | inl within ↦ subst P (sym (h.fresh source within)) (fresh source)
       | inr past ↦ subst P (sym (get_or_past worker.pass source no_hold (let long = h.own.size in omega (arith, past, size, long)))) none
     ]
 
-pub hired_at_work : (pool : List TableId) (tickets : TableId) (counts : List ℕ) (readies : List Ready) (worker : Worker) → length pool ≡ length counts
-    → IsHired pool tickets counts worker → All (IsReadyFor counts) readies → IsAtWork pool tickets readies worker
-hired_at_work pool tickets counts readies worker size h ready = record {
+pub made_at_work : (pool : List TableId) (tickets : TableId) (counts : List ℕ) (readies : List Ready) (worker : Worker) → length pool ≡ length counts
+    → IsNewWorker pool tickets counts worker → All (IsReadyFor counts) readies → IsAtWork pool tickets readies worker
+made_at_work pool tickets counts readies worker size h ready = record {
   ready = λ i d l. (ready i d l).is;
   own = h.own;
-  rests = record { rests = hired_hold (λ hold. hold.waiting.need ≡ None) pool tickets counts worker size h (λ source. refl) refl };
+  rests = record { rests = made_hold (λ hold. hold.waiting.need ≡ None) pool tickets counts worker size h (λ source. refl) refl };
   sources = λ i d l. record {
     each = λ k e m.
         let for = (ready i d l).sources k e m in
@@ -64,17 +64,17 @@ hired_at_work pool tickets counts readies worker size h ready = record {
   };
   draws = (ap (λ (d : TableId × Draws). d.0) h.draws, ap (λ (d : TableId × Draws). d.1.parts) h.draws);
   worked = worked_none readies worker h.none
-      (λ source. hired_hold (DidOf [] source) pool tickets counts worker size h (λ s. did_nothing source (fresh_hold pool counts s) refl refl refl refl refl)
+      (λ source. made_hold (DidOf [] source) pool tickets counts worker size h (λ s. did_nothing source (fresh_hold pool counts s) refl refl refl refl refl)
       (did_nothing source no_hold refl refl refl refl refl) source);
 }
 
 pub all_at_work : (pool : List TableId) (tickets : TableId) (counts : List ℕ) (holds : List Hold) (draws : TableId × Draws) (workers : List Worker) (readies : List Ready)
-    → IsHiring pool tickets counts holds draws workers → All (IsReadyFor counts) readies → All (IsAtWork pool tickets readies) workers
+    → AreNewWorkers pool tickets counts holds draws workers → All (IsReadyFor counts) readies → All (IsAtWork pool tickets readies) workers
 all_at_work pool tickets counts holds draws workers readies h ready i d l =
-    hired_at_work pool tickets counts readies (slice_index_or workers i d) h.base.size (h.each i d l) ready
+    made_at_work pool tickets counts readies (slice_index_or workers i d) h.base.size (h.each i d l) ready
 
 -- what it leaves once it has worked
-pub left_of : (pool : List TableId) (tickets : TableId) (counts : List ℕ) (readies : List Ready) (before after : Worker) → IsHired pool tickets counts before
+pub left_of : (pool : List TableId) (tickets : TableId) (counts : List ℕ) (readies : List Ready) (before after : Worker) → IsNewWorker pool tickets counts before
     → Worked pool tickets readies before after → HasLeft pool tickets counts readies after
 left_of pool tickets counts readies before after h w = record {
   at_work = w.at_work;
@@ -83,7 +83,7 @@ left_of pool tickets counts readies before after h w = record {
 }
 
 pub all_left : (pool : List TableId) (tickets : TableId) (counts : List ℕ) (holds : List Hold) (draws : TableId × Draws) (before after : List Worker) (readies : List Ready)
-    → IsHiring pool tickets counts holds draws before
+    → AreNewWorkers pool tickets counts holds draws before
     → AllWorked pool tickets readies before after
     → (i : ℕ) (d : Worker) → i < length after → HasLeft pool tickets counts readies (slice_index_or after i d)
 all_left pool tickets counts holds draws before after readies h w i d l =
@@ -92,7 +92,7 @@ all_left pool tickets counts holds draws before after readies h w i d l =
 
 -- the first pass of a pool that was opened
 pub hiring_none : (counts : List ℕ) (pool : List TableId) (holds : List Hold) (feeds : List Feed) (tickets : TableId) (draws : TableId × Draws)
-    → IsOpened counts pool holds feeds → draws ≡ (tickets, drawn_none) → IsHiring pool tickets counts holds draws []
+    → IsOpened counts pool holds feeds → draws ≡ (tickets, drawn_none) → AreNewWorkers pool tickets counts holds draws []
 hiring_none counts pool holds feeds tickets draws opened first = record {
   base = record {
     size = opened.size;
@@ -109,7 +109,7 @@ hiring_none counts pool holds feeds tickets draws opened first = record {
 
 -- one more pass may be split off
 pub may_split : (pool : List TableId) (tickets : TableId) (counts : List ℕ) (holds : List Hold) (draws : TableId × Draws) (workers : List Worker) → length workers < 32
-    → IsHiring pool tickets counts holds draws workers → MaySplit pool holds
+    → AreNewWorkers pool tickets counts holds draws workers → MaySplit pool holds
 may_split pool tickets counts holds draws workers few h = record {
   parts = λ source l.
       let size = h.base.size in
@@ -118,14 +118,14 @@ may_split pool tickets counts holds draws workers few h = record {
 }
 
 -- a worker more, with passes that were split off
-pub hired_more : (pool : List TableId) (tickets : TableId) (counts : List ℕ) (before after : List Hold) (had has : TableId × Draws) (workers now : List Worker) (worker : Worker)
+pub made_more : (pool : List TableId) (tickets : TableId) (counts : List ℕ) (before after : List Hold) (had has : TableId × Draws) (workers now : List Worker) (worker : Worker)
     → length workers < 32 → now ≡ workers ++ worker ∷ [] → IsPassOf pool after → IsPassOf pool worker.pass → IsSplit pool before after worker.pass
     → has ≡ (tickets, with_parts (had.1.parts - 1) had.1) → worker.draws ≡ (tickets, fresh 1) → worker.ended.items ≡ []
-    → IsHiring pool tickets counts before had workers → IsHiring pool tickets counts after has now
-hired_more pool tickets counts before after had has workers now worker few push own its split fewer given none h =
+    → AreNewWorkers pool tickets counts before had workers → AreNewWorkers pool tickets counts after has now
+made_more pool tickets counts before after had has workers now worker few push own its split fewer given none h =
     let within : (source : ℕ) → source < length counts → source < length pool = λ source l. let size = h.base.size in omega (arith, l, size) in
     let kept : (source : ℕ) → source < length counts → hold_at after source ≡ kept_hold (hold_at before source) = λ source l. split.kept source (within source l) in
-    subst (IsHiring pool tickets counts after has) (sym push)
+    subst (AreNewWorkers pool tickets counts after has) (sym push)
     (record {
       base = subst (λ n. IsBase pool counts n after) (sym (length_push workers worker))
           (record {
@@ -144,11 +144,11 @@ hired_more pool tickets counts before after had has workers now worker few push 
           (subst (IsFirst tickets (length workers + 1)) (sym fewer)
           (record { of = refl; parts = let was = h.first.parts in omega (arith, was, few); none = h.first.none }));
       each = λ i d l. elim (cases_lt i (length workers)) [
-        | inl front ↦ subst (IsHired pool tickets counts) (sym (get_or_append_left workers (worker ∷ []) d i front)) (h.each i d front)
+        | inl front ↦ subst (IsNewWorker pool tickets counts) (sym (get_or_append_left workers (worker ∷ []) d i front)) (h.each i d front)
         | inr past ↦
             let long = length_push workers worker in
             let here : length workers ≡ i = omega (arith, past, l, long) in
-            subst (IsHired pool tickets counts) (sym (get_or_at workers worker [] d i here))
+            subst (IsNewWorker pool tickets counts) (sym (get_or_at workers worker [] d i here))
             (record {
               own = its;
               fresh = λ source s. split.given source (within source s) ∙ h.base.gives source s;
@@ -158,7 +158,7 @@ hired_more pool tickets counts before after had has workers now worker few push 
       ];
     })
 
--- the workers of a crew that has run
+-- the workers of a worker pool that has run
 pub record RanParts (settings : Settings) (counts : List ℕ) (readies : List Ready) (pool : List TableId) (tickets : TableId) (holds : List Hold) (draws : TableId × Draws)
     (workers : List Worker) : Type 0 where
   pub base : IsBase pool counts (length workers) holds
@@ -167,7 +167,7 @@ pub record RanParts (settings : Settings) (counts : List ℕ) (readies : List Re
   pub each : (i : ℕ) (d : Worker) → i < length workers → HasLeft pool tickets counts readies (slice_index_or workers i d)
 
 pub ran_parts : (settings : Settings) (counts : List ℕ) (readies : List Ready) (pool : List TableId) (tickets : TableId) (holds : List Hold) (draws : TableId × Draws)
-    (before after : List Worker) → IsHiring pool tickets counts holds draws before → length before ≡ settings.workers → AllWorked pool tickets readies before after
+    (before after : List Worker) → AreNewWorkers pool tickets counts holds draws before → length before ≡ settings.workers → AllWorked pool tickets readies before after
     → RanParts settings counts readies pool tickets holds draws after
 ran_parts settings counts readies pool tickets holds draws before after h size worked = record {
   base = subst (λ n. IsBase pool counts n holds) (sym worked.size) h.base;

@@ -2,7 +2,7 @@
 
 ghost use Rattle.std.specs.Prelude.{◌≡◌, ◌≤◌, ◌<◌, ◌+◌, ◌^◌, [], ℕ, None, List, All, length, replicate, IfOk, OnOk, vec_len, vec_capacity};
 ghost use Rattle.source_pool.specs.Passes.{IsPassOf};
-ghost use Rattle.batch_run.specs.Crews.{IsHiring, IsNewCrew};
+ghost use Rattle.batch_run.specs.WorkerPools.{AreNewWorkers, IsNewWorkerPool};
 
 use super::work::Worker;
 use batch_result::Use;
@@ -14,7 +14,7 @@ use topk_base::MAX_OBJECTS;
 
 /// The pool of a batch with its first pass and its feeders, the tickets for its queries, the workers, and room for what the batch gives.
 #[derive(Drop)]
-pub struct Crew {
+pub struct WorkerPool {
     /// The sources, each behind a lock of its own.
     pub pool: Pool,
     /// The first pass, of which the workers' passes were split off.
@@ -36,7 +36,7 @@ pub struct Crew {
 }
 
 /// One more worker, for whom there is room. The first passes give it passes of its own.
-fn hire_next(
+fn make_worker(
     alloc: Global,
     pool: &Pool,
     pass: &mut PoolPass,
@@ -47,9 +47,9 @@ fn hire_next(
     requires few { vec_len workers.old < 32 }
     requires room { vec_len workers.old < vec_capacity workers.old }
     requires own { IsPassOf pool.now pass.old }
-    requires hiring { (counts : List ℕ) × IsHiring pool.now tickets.now counts pass.old draws.old workers.old.items }
-    ensures hired { OnOk result ((counts : List ℕ) → IsHiring pool.now tickets.now counts pass.old draws.old workers.old.items
-        → IsHiring pool.now tickets.now counts pass.new draws.new workers.new.items) }
+    requires new_workers { (counts : List ℕ) × AreNewWorkers pool.now tickets.now counts pass.old draws.old workers.old.items }
+    ensures made { OnOk result ((counts : List ℕ) → AreNewWorkers pool.now tickets.now counts pass.old draws.old workers.old.items
+        → AreNewWorkers pool.now tickets.now counts pass.new draws.new workers.new.items) }
     ensures size { OnOk result (vec_len workers.new ≡ vec_len workers.old + 1) }
     ensures room { vec_capacity workers.new ≡ vec_capacity workers.old }
 {
@@ -65,7 +65,7 @@ fn hire_next(
 }
 
 /// So many workers.
-fn hire(
+fn make_workers(
     alloc: Global,
     pool: &Pool,
     pass: &mut PoolPass,
@@ -76,16 +76,16 @@ fn hire(
 ) -> Result<(), Memory>
     requires few { count ≤ 32 }
     requires none { workers.old.items ≡ [] }
-    requires own { (counts : List ℕ) × IsHiring pool.now tickets.now counts pass.old draws.old workers.old.items }
-    ensures hired { OnOk result ((counts : List ℕ) → IsHiring pool.now tickets.now counts pass.old draws.old workers.old.items
-        → IsHiring pool.now tickets.now counts pass.new draws.new workers.new.items) }
+    requires own { (counts : List ℕ) × AreNewWorkers pool.now tickets.now counts pass.old draws.old workers.old.items }
+    ensures made { OnOk result ((counts : List ℕ) → AreNewWorkers pool.now tickets.now counts pass.old draws.old workers.old.items
+        → AreNewWorkers pool.now tickets.now counts pass.new draws.new workers.new.items) }
     ensures size { OnOk result (vec_len workers.new ≡ count) }
 {
     let Ok(()) = workers.reserve(count as usize) else {
         return Err(Memory);
     };
     for _ in 0..count {
-        hire_next(alloc, pool, pass, tickets, draws, workers)?;
+        make_worker(alloc, pool, pass, tickets, draws, workers)?;
     }
     Ok(())
 }
@@ -122,13 +122,18 @@ fn make_room(
     }
 }
 
-impl Crew {
+impl WorkerPool {
     /// The pool of sources with these counts of objects, with so many workers, and room for the endings of so many queries.
-    pub fn make(alloc: Global, counts: &[u32], queries: usize, workers: u32) -> Result<Crew, Memory>
+    pub fn make(
+        alloc: Global,
+        counts: &[u32],
+        queries: usize,
+        workers: u32,
+    ) -> Result<WorkerPool, Memory>
         requires few { length counts.now < 2 ^ 32 }
         requires counts { All (λ count. count ≤ MAX_OBJECTS) counts.now }
         requires workers { workers ≤ 32 }
-        ensures { IfOk result (IsNewCrew counts.now queries workers) }
+        ensures { IfOk result (IsNewWorkerPool counts.now queries workers) }
     {
         let Ok((tickets, draws)) = Tickets::open(alloc) else {
             return Err(Memory);
@@ -139,7 +144,7 @@ impl Crew {
         let Ok((pool, pass, feeders)) = Pool::open(alloc, counts) else {
             return Err(Memory);
         };
-        let mut crew = Crew {
+        let mut worker_pool = WorkerPool {
             pool,
             pass,
             tickets,
@@ -150,25 +155,30 @@ impl Crew {
             endings: Vec::new(alloc),
             uses: Vec::new(alloc),
         };
-        let Ok(()) = make_room(&mut crew.endings, queries, &mut crew.uses, counts.len()) else {
-            crew.let_go();
+        let Ok(()) = make_room(
+            &mut worker_pool.endings,
+            queries,
+            &mut worker_pool.uses,
+            counts.len(),
+        ) else {
+            worker_pool.let_go();
             return Err(Memory);
         };
-        let Ok(()) = hire(
+        let Ok(()) = make_workers(
             alloc,
-            &crew.pool,
-            &mut crew.pass,
-            &crew.tickets,
-            &mut crew.draws,
-            &mut crew.workers,
+            &worker_pool.pool,
+            &mut worker_pool.pass,
+            &worker_pool.tickets,
+            &mut worker_pool.draws,
+            &mut worker_pool.workers,
             workers,
         ) else {
-            crew.let_go();
+            worker_pool.let_go();
             return Err(Memory);
         };
-        Ok(crew)
+        Ok(worker_pool)
     }
 
-    /// Lets a crew go. Who owns one lets it go by this call, so that it is proved once.
+    /// Lets a worker pool go. Who owns one lets it go by this call, so that it is proved once.
     pub fn let_go(self) {}
 }

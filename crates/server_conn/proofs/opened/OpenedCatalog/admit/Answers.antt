@@ -4,7 +4,7 @@ use Rattle.query_admission.specs.Admission.{Admits}
 use Rattle.query_admission.specs.Causes.{line_over}
 use Rattle.server_conn.specs.Entries.{view_in, HasSources}
 use Rattle.server_conn.proofs.ListLaws.{has_sources}
-use Rattle.server_conn.proofs.opened.Opened.admit.Goals as goal
+use Rattle.server_conn.proofs.opened.OpenedCatalog.admit.Goals as goal
 
 pub returns-clause-sources : goal.returns-clause-sources
 returns-clause-sources c = λ holds there.

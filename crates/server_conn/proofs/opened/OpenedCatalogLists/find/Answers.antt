@@ -4,7 +4,7 @@ use Rattle.catalog_open.specs.Entries.{opening_at}
 use Rattle.catalog_open.specs.Views.{entry_named, said_of}
 use Rattle.server_conn.specs.Entries.{opening_of}
 use Rattle.server_conn.proofs.ListLaws.{list_found}
-use Rattle.server_conn.proofs.opened.OpenedLists.find.Goals as goal
+use Rattle.server_conn.proofs.opened.OpenedCatalogLists.find.Goals as goal
 
 pub returns : goal.returns
 returns c =

@@ -1,5 +1,5 @@
 use Rattle.std.proofs.Common.{◌≡◌, ◌≤◌, None, replicate, vec_capacity}
-use Rattle.batch_run.proofs.hire.empty_places.Given as goal
+use Rattle.batch_run.proofs.worker_pool.empty_places.Given as goal
 
 abbrev pub invariant-loop : goal.invariant-loop
 invariant-loop l = record {

@@ -1,4 +1,4 @@
--- What a crew is before it runs and after it, and how its passes come together.
+-- What a worker pool is before it runs and after it, and how its passes come together.
 use Rattle.std.specs.Prelude.{◌≡◌, ◌≤◌, ◌<◌, ◌+◌, ◌⊎◌, [], ℕ, None, List, Contains, length, slice_index, replicate, vec_capacity}
 use Rattle.std.specs.List.{slice_index_or, sum_by}
 use Rattle.atomic_table.specs.Seated.{TableId}
@@ -18,7 +18,7 @@ use Rattle.fetcher.specs.Moving.{MovesOnly}
 use Rattle.batch_result.specs.Using.{IsReplaced}
 use Rattle.topk_base.specs.declared.settings.Settings.{Settings}
 use Rattle.batch_run.specs.declared.work.Worker.{Worker}
-use Rattle.batch_run.specs.declared.hire.Crew.{Crew}
+use Rattle.batch_run.specs.declared.worker_pool.WorkerPool.{WorkerPool}
 use Rattle.batch_run.specs.Working.{IsAtWork}
 use Rattle.batch_run.specs.Slots.{SlotState, slot_at}
 
@@ -26,8 +26,8 @@ use Rattle.batch_run.specs.Slots.{SlotState, slot_at}
 abbrev pub fresh_hold : List TableId → List ℕ → ℕ → Hold
 fresh_hold pool counts source = new_hold (first_hold (lock_at pool source) source (slice_index counts source))
 
--- a worker that was hired, with a pass of this pool and one of these tickets, which drew nothing
-pub record IsHired (pool : List TableId) (tickets : TableId) (counts : List ℕ) (worker : Worker) : Type 0 where
+-- a worker that was made, with a pass of this pool and one of these tickets, which drew nothing
+pub record IsNewWorker (pool : List TableId) (tickets : TableId) (counts : List ℕ) (worker : Worker) : Type 0 where
   pub own : IsPassOf pool worker.pass
   pub fresh : (source : ℕ) → source < length counts → hold_at worker.pass source ≡ fresh_hold pool counts source
   pub draws : worker.draws ≡ (tickets, fresh_draws 1)
@@ -50,21 +50,21 @@ pub record IsFirst (tickets : TableId) (given : ℕ) (draws : TableId × Draws) 
   pub parts : draws.1.parts + given ≡ all_draws
   pub none : draws.1.drawn ≡ []
 
--- so many workers were hired
-pub record IsHiring (pool : List TableId) (tickets : TableId) (counts : List ℕ) (holds : List Hold) (draws : TableId × Draws) (workers : List Worker) : Type 0 where
+-- so many workers were made
+pub record AreNewWorkers (pool : List TableId) (tickets : TableId) (counts : List ℕ) (holds : List Hold) (draws : TableId × Draws) (workers : List Worker) : Type 0 where
   pub base : IsBase pool counts (length workers) holds
   pub first : IsFirst tickets (length workers) draws
-  pub each : (i : ℕ) (d : Worker) → i < length workers → IsHired pool tickets counts (slice_index_or workers i d)
+  pub each : (i : ℕ) (d : Worker) → i < length workers → IsNewWorker pool tickets counts (slice_index_or workers i d)
 
--- a crew for sources with these counts and for so many queries, with so many workers
-pub record IsNewCrew (counts : List ℕ) (queries workers : ℕ) (crew : Crew) : Type 0 where
-  pub hiring : IsHiring crew.pool crew.tickets counts crew.pass crew.draws crew.workers.items
-  pub size : length crew.workers.items ≡ workers
-  pub feeders : AreFeedersOf crew.pool crew.feeders.items
-  pub fed : (source : ℕ) → source < length counts → feed_at crew.feeders.items source ≡ first_feed (lock_at crew.pool source) source (slice_index counts source)
-  pub places : crew.places.items ≡ replicate queries None
-  pub endings : (crew.endings.items ≡ []) × (queries ≤ vec_capacity crew.endings)
-  pub uses : (crew.uses.items ≡ []) × (length counts ≤ vec_capacity crew.uses)
+-- a worker pool for sources with these counts and for so many queries, with so many workers
+pub record IsNewWorkerPool (counts : List ℕ) (queries workers : ℕ) (worker_pool : WorkerPool) : Type 0 where
+  pub new_workers : AreNewWorkers worker_pool.pool worker_pool.tickets counts worker_pool.pass worker_pool.draws worker_pool.workers.items
+  pub size : length worker_pool.workers.items ≡ workers
+  pub feeders : AreFeedersOf worker_pool.pool worker_pool.feeders.items
+  pub fed : (source : ℕ) → source < length counts → feed_at worker_pool.feeders.items source ≡ first_feed (lock_at worker_pool.pool source) source (slice_index counts source)
+  pub places : worker_pool.places.items ≡ replicate queries None
+  pub endings : (worker_pool.endings.items ≡ []) × (queries ≤ vec_capacity worker_pool.endings)
+  pub uses : (worker_pool.uses.items ≡ []) × (length counts ≤ vec_capacity worker_pool.uses)
 
 -- what a worker leaves: its pass has one part of each source, and it ran some of the queries
 pub record HasLeft (pool : List TableId) (tickets : TableId) (counts : List ℕ) (readies : List Ready) (worker : Worker) : Type 0 where
@@ -86,19 +86,19 @@ pub record HasFetched (pool : List TableId) (settings : Settings) (source count 
       (first_feed (lock_at pool source) source count).pass.1 feed.pass.1
   pub moved : MovesOnly (IsReplaced before.version before.counts after.counts) (first_feed (lock_at pool source) source count).pass.1.seen feed.pass.1.seen
 
--- a crew that has run: its first passes did nothing, each worker ran some of the queries, and each feeder fetched
-pub record HasRun (settings : Settings) (counts : List ℕ) (readies : List Ready) (before after : List SlotState) (crew : Crew) : Type 0 where
-  pub base : IsBase crew.pool counts (length crew.workers.items) crew.pass
-  pub first : IsFirst crew.tickets (length crew.workers.items) crew.draws
-  pub size : length crew.workers.items ≡ settings.workers
+-- a worker pool that has run: its first passes did nothing, each worker ran some of the queries, and each feeder fetched
+pub record HasRun (settings : Settings) (counts : List ℕ) (readies : List Ready) (before after : List SlotState) (worker_pool : WorkerPool) : Type 0 where
+  pub base : IsBase worker_pool.pool counts (length worker_pool.workers.items) worker_pool.pass
+  pub first : IsFirst worker_pool.tickets (length worker_pool.workers.items) worker_pool.draws
+  pub size : length worker_pool.workers.items ≡ settings.workers
   pub slots : (length before ≡ length counts) × (length after ≡ length counts)
-  pub each : (i : ℕ) (d : Worker) → i < length crew.workers.items → HasLeft crew.pool crew.tickets counts readies (slice_index_or crew.workers.items i d)
-  pub feeders : AreFeedersOf crew.pool crew.feeders.items
+  pub each : (i : ℕ) (d : Worker) → i < length worker_pool.workers.items → HasLeft worker_pool.pool worker_pool.tickets counts readies (slice_index_or worker_pool.workers.items i d)
+  pub feeders : AreFeedersOf worker_pool.pool worker_pool.feeders.items
   pub fetched : (source : ℕ) → source < length counts
-      → HasFetched crew.pool settings source (slice_index counts source) (slot_at before source) (slot_at after source) (feed_at crew.feeders.items source)
-  pub places : crew.places.items ≡ replicate (length readies) None
-  pub endings : (crew.endings.items ≡ []) × (length readies ≤ vec_capacity crew.endings)
-  pub uses : (crew.uses.items ≡ []) × (length counts ≤ vec_capacity crew.uses)
+      → HasFetched worker_pool.pool settings source (slice_index counts source) (slot_at before source) (slot_at after source) (feed_at worker_pool.feeders.items source)
+  pub places : worker_pool.places.items ≡ replicate (length readies) None
+  pub endings : (worker_pool.endings.items ≡ []) × (length readies ≤ vec_capacity worker_pool.endings)
+  pub uses : (worker_pool.uses.items ≡ []) × (length counts ≤ vec_capacity worker_pool.uses)
 
 -- these passes were joined to a pass
 pub record Rejoins (pool : List TableId) (others : List (List Hold)) (before after : List Hold) : Type 0 where

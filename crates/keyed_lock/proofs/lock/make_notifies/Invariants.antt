@@ -1,0 +1,5 @@
+use Rattle.std.proofs.Common.{◌≡◌, ◌≤◌, vec_len, vec_capacity}
+use Rattle.keyed_lock.proofs.lock.make_notifies.Given as goal
+
+abbrev pub invariant-loop-made : goal.invariant-loop-made
+invariant-loop-made l = (vec_len l.notifies ≡ l.made) × (l.count ≤ vec_capacity l.notifies)
