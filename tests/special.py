@@ -211,7 +211,7 @@ def workers_are_threads(program: str) -> str | None:
 
 
 def settings_change_nothing(program: str) -> str | None:
-    """Hundreds of runs over threads with small pages write one text, and each comes to its end: no bell is rung where
+    """Hundreds of runs over threads with small pages write one text, and each comes to its end: nobody is woken where
     nobody hears it."""
     needs(no_threads(50))
     made = random.Random(7)
