@@ -1,5 +1,5 @@
-"""Tests of `node` as processes on free ports of 127.0.0.1: what `run` reads of them, versions, and clients that
-misbehave.
+"""Tests of `node` as processes on free ports of 127.0.0.1: what `run` reads of them, what each request of
+requests/node.txt gets, versions, and clients that misbehave.
 
 Each node takes so many connections as its test needs and ends by itself; one that doesn't is ended at the test's end,
 and the test fails.
@@ -8,10 +8,13 @@ from __future__ import annotations
 
 import contextlib
 import socket
+import tempfile
 from collections.abc import Callable, Iterator
 
+from hosts import LISTS
 from machine import SECONDS, free_port, over_network
-from support import DATA, HOTELS, MANY, differs, ended, hotel_lists, node, reply, run, run_at, worked_out
+from support import (DATA, HOTELS, MANY, answer, begun, differs, ended, first_difference, hotel_lists, node, reply, run,
+                     run_at, worked_out, write_lists, wrong_replies)
 
 QUERIES = ("top 2 by sum(price,rating,centre) using ta", "top 3 by min(price,rating) using nra",
            "top 1 by median(price,rating,centre) using ca", "top 2 by max(rating,centre) using fa")
@@ -34,12 +37,21 @@ def run_of_nodes(program: str) -> str | None:
     return None
 
 
+def requests(program: str) -> str | None:
+    """Each request gets its reply."""
+    with tempfile.TemporaryDirectory() as place:
+        write_lists(place, {"A": LISTS["A"]})
+        with begun([program, "node", "catalog.csv", "A"], place) as (port, _):
+            return wrong_replies(port, "node", b"GET /lists/A/size", answer)
+
+
 def versions(program: str) -> str | None:
     """A node states the version that it is told, and a certificate says it."""
     line = "top 1 by price using ta"
     wanted = worked_out([line], hotel_lists()).replace(b"\ncount 24\n", b"\ncount 24\nversion price 7\n")
     with node(program, "price", MANY, "--version", "7") as (port, _):
-        return differs(run_at(program, {"price": port}, f"{line}\n".encode()), 0, wanted)
+        wrong = differs(run_at(program, {"price": port}, f"{line}\n".encode()), 0, wanted)
+        return wrong or first_difference(reply(port, SIZE), answer('{"count":24,"version":7}'))
 
 
 def counted(program: str) -> str | None:
@@ -80,5 +92,5 @@ def taken_port(program: str) -> str | None:
 
 def tests() -> Iterator[tuple[str, Callable[[str], str | None]]]:
     """Each test with its name."""
-    for test in (run_of_nodes, versions, counted, refused, taken_port):
+    for test in (run_of_nodes, requests, versions, counted, refused, taken_port):
         yield f"nodes_{test.__name__}", over_network(test)

@@ -5,7 +5,8 @@ Use, from anywhere: python3 tests/run.py [--program PATH] [--minutes N] [--libra
 
 Without names all tests run. Each folder of cases/ is one: `words` (a word a line), `input` (standard input, empty where
 there is none), `files/` (copied to where the program runs), `output` (what it has to write) and `status` (0 where there
-is none). A folder with `rows` is a table of runs, which rows.py reads.
+is none). A folder with `rows` is a table of runs, which rows.py reads. requests/ has requests to `node` and to `serve`
+with what they get, a line each.
 
 A test that needs more than a folder stands in a file of this folder, by topic; its head says of what. Such a file is
 taken up by being here. It has a function `tests()` that yields names, each with a function that is given the program's

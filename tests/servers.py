@@ -18,9 +18,11 @@ import threading
 from collections.abc import Callable, Iterator
 
 import nodes
+from hosts import LISTS
 from machine import SECONDS, needs, no_files, no_memory, no_room, over_network
 from support import (DATA, HOTELS, MANY, Host, answer, catalog, differs, ended, first_difference, host, hotel_lists,
-                     list_text, node, received, reply, request, run, server, taken_apart, whole, worked_out, write)
+                     list_text, node, received, reply, request, run, server, taken_apart, whole, worked_out, write,
+                     write_lists, wrong_replies)
 
 # Lines over the hotels, and what becomes of those that are refused.
 LINES = (
@@ -63,27 +65,12 @@ def lines(program: str) -> str | None:
     return None
 
 
-def statuses(program: str) -> str | None:
-    """Requests that are none of a line have their statuses; of two that come one behind the other the first alone is
-    answered."""
-    head = b" HTTP/1.1\r\nHost: h\r\n\r\n"
-    rows = [
-        (b"POST /other" + head, 405), (b"HEAD /top?q=" + head, 405), (b"GET /other?q=" + head, 404),
-        (b"GET /top?x=1" + head, 400), (b"GET top" + head, 400), (b"GET /top?q= HTTP/1.1\r\n\r\n", 400),
-        (b"GET /top?q= HTTP/1.1\r\nHost: h\r\nHost: h\r\n\r\n", 400), (b"GET /top?q= HTT", 400),
-        (b"\x00\xff\r\n\r\n", 400), (b"GET /top?q=" + b"a" * 17_000 + head, 431),
-        (b"GET /top?q= HTTP/1.1\r\nHost: h\r\n" + b"X: y\r\n" * 70 + b"\r\n", 431), (b"GET /top?q=" + head, 200),
-        (b"GET http://h:80/top?q" + head, 200), (b"GET /top?q=%00%ff" + head, 200),
-        (b"GET /top?q=" + head + b"GET /other" + head, 200),
-    ]
-    with server(program, len(rows) + 1) as (port, process):
-        for sent, status in rows:
-            given = reply(port, sent)
-            if not given.startswith(b"HTTP/1.1 %d " % status):
-                return f"{sent[:60]!r}: replied {given[:200]!r}"
-            if status == 200 and b"%00" not in sent and not given.endswith(b"\r\n\r\nrefused 1 Syntax 0\n"):
-                return f"{sent[:60]!r}: replied {given[:200]!r}"
-        return ended(process, 0, b"served %d\n" % (len(rows) + 1))
+def requests(program: str) -> str | None:
+    """Each request gets its reply; of two that come one behind the other the first alone is answered."""
+    with tempfile.TemporaryDirectory() as place:
+        write_lists(place, LISTS)
+        with server(program, place=place) as (port, _):
+            return wrong_replies(port, "server", b"GET /top?q=", lambda text: whole(text.encode()))
 
 
 def at_once(program: str) -> str | None:
@@ -330,6 +317,6 @@ def refused(program: str) -> str | None:
 def tests() -> Iterator[tuple[str, Callable[[str], str | None]]]:
     """Each test with its name."""
     yield "servers_words", words
-    for test in (lines, statuses, at_once, misbehaving, workers, megabytes, many_silent, given_up, over_nodes,
+    for test in (lines, requests, at_once, misbehaving, workers, megabytes, many_silent, given_up, over_nodes,
                  generations, read_once, refused):
         yield f"servers_{test.__name__}", over_network(test)

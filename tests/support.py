@@ -204,6 +204,45 @@ def refusal(status: int, reason: str) -> bytes:
     return replied(f"{status} {reason}", "text/plain", f"{reason}\n", *(["Allow: GET"] if status == 405 else []))
 
 
+# The reasons beside the statuses that refuse a request.
+REASONS = {400: "Bad Request", 404: "Not Found", 405: "Method Not Allowed", 431: "Request Header Fields Too Large"}
+
+
+def exchange(line: str, good: Callable[[str], bytes]) -> tuple[bytes, bytes]:
+    """A request of a file of requests/, and the reply that it gets. Who asks for the head alone gets no body, whose
+    length isn't said then."""
+    told, _, body = line.encode("ascii").decode("unicode_escape").partition(" => ")
+    status, _, request = told.partition(" ")
+    request += "\r\n\r\n" if " HTTP/" in request else " HTTP/1.1\r\nHost: h\r\n\r\n"
+    wanted = good(body) if status == "200" else refusal(int(status), REASONS[int(status)])
+    if request.startswith("HEAD ") and status == "405":
+        wanted = re.sub(rb"Content-Length: \d+\r\n", b"", wanted[:wanted.index(b"\r\n\r\n") + 4])
+    return request.encode("latin-1"), wanted
+
+
+def longest(request: bytes) -> Iterator[bytes]:
+    """A request whose head has the most bytes, one with a byte more, one with the most lines, and one with a line
+    more."""
+    head = request[:-2]
+    for length in (16_384, 16_385):
+        yield (head + b"X: ").ljust(length - 4, b"x") + b"\r\n\r\n"
+    for lines in (63, 64):
+        yield head + lines * b"X: x\r\n" + b"\r\n"
+
+
+def wrong_replies(port: int, name: str, first: bytes, good: Callable[[str], bytes]) -> str | None:
+    """What is wrong with the replies to the requests of requests/NAME.txt, and to the first of these, which begins so,
+    where nothing of it comes, where its end doesn't, and where its head is as long as it may be, or longer; or None."""
+    text = (pathlib.Path(__file__).with_name("requests") / f"{name}.txt").read_text(encoding="ascii")
+    sent = [exchange(line, good) for line in text.splitlines() if not line.startswith("#")]
+    request, replied_well = sent[0]
+    assert request.startswith(first)
+    bad, too_long = refusal(400, REASONS[400]), refusal(431, REASONS[431])
+    sent += [(b"", bad), (request[:-2], bad), *zip(longest(request), (replied_well, too_long) * 2)]
+    found = [(it, first_difference(reply(port, it), wanted)) for it, wanted in sent]
+    return "\n    ".join(f"{it[:99]!r}: {wrong}" for it, wrong in found if wrong is not None) or None
+
+
 def taken_apart(target: str) -> tuple[str, str, dict[str, int]]:
     """The list, the call and its numbers of a request for `/lists/NAME/CALL?..`."""
     path, _, query = target.partition("?")
