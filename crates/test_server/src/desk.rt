@@ -7,7 +7,7 @@ ghost use Rattle.source_pool.specs.Passes.{IsIdleOf};
 ghost use Rattle.test_server.specs.Four.{four_entries};
 
 use catalog_text::read_catalog;
-use server_conn::{OpenedEntry, OpenedCatalog};
+use server_conn::{OpenedCatalog, OpenedEntry};
 use std::alloc::Global;
 use test_query_support::Pair;
 
