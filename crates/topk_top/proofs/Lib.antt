@@ -22,6 +22,7 @@ mod Proving
 mod Fixing
 mod Certifying
 mod AnswersFixed
+mod LinesFixed
 mod Counters
 mod OneCertificate
 mod ToldText

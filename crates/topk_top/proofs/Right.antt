@@ -43,7 +43,8 @@ never_answered (Some refusal) answer e = refused_answered refusal answer (same_S
 pub same_answer : {one other : Answer} → Answered one ≡ Answered other → one ≡ other
 same_answer e = cc
 
-ended_right : (ready : ReadyQuery) (e : Ended) (answer : Answer) → IsRight ready e → ended_outcome e ≡ Some (Answered answer)
+-- the answer that a query ended rightly with
+pub ended_right : (ready : ReadyQuery) (e : Ended) (answer : Answer) → IsRight ready e → ended_outcome e ≡ Some (Answered answer)
     → IsAnsweredWith (method_of_ready ready) ready.query ready.count answer
 ended_right ready (ended.Answered other) answer right is =
     subst (IsAnsweredWith (method_of_ready ready) ready.query ready.count) (same_answer (same_Some (Answered other) (Answered answer) is)) right

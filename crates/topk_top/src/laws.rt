@@ -3,8 +3,10 @@
 ghost use Rattle.topk_top.specs.Laws.{AnswersAreFixed, CountersAreBundles};
 ghost use Rattle.topk_top.specs.Limits.{AreStated};
 
-/// Each text that `one` writes of an answered query spells a certificate whose figures are right, what it guarantees among them, and is fixed:
-/// `judge` replies `fixes` to it, and nothing else.
+/// Each text that `one`, `run` or `serve` writes of an answered query line spells a certificate whose figures are right, what it guarantees among
+/// them, and is fixed: `judge` says `fixes` of it, and nothing else, where it is no longer than an input may be. Of a run that is each line's part
+/// of what it writes, of a server the body of a reply. Of both it is said for objects of 32 bits and versions of 64: in the code they are `u32` and
+/// `u64`.
 pub fn answers_are_fixed()
     ensures { AnswersAreFixed }
 {}
